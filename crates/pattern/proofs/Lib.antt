@@ -1,0 +1,19 @@
+-- The theorems on patterns, each file one subject. Later files rest on earlier ones.
+pub mod Tests
+pub mod Search
+pub mod Once
+pub mod Finding
+pub mod Pairing
+pub mod Peeling
+pub mod Leading
+pub mod NoChoice
+pub mod SomeChoice
+pub mod ToLast
+pub mod Rises
+pub mod Verdicts
+pub mod Growing
+pub mod Peeled
+pub mod Reaching
+pub mod Numbers
+pub mod Computed
+pub mod Rungs

@@ -1,0 +1,125 @@
+-- Peels: a sound order is a peel of full length and the other way round; every full choice takes a peel's pairs; and while a
+-- sound order exists no peel is stuck. Rests on Pairing.antt.
+use mathlib.Core.Logic.{_⊎_, inl, inr}
+use mathlib.Core.Path.{_≡_, sym, ap, _∙_, subst}
+use Prim.Native.Nat.{ℕ, suc, _≤_, _<_}
+use native.Mathlib.Decide.{ℕ-discrete}
+use native.Mathlib.Omega.{arith}
+use Rattle.pattern.specs.Choice.{Choice}
+use Rattle.pattern.specs.Order.{Sound}
+use Rattle.pattern.specs.Pattern.{Pattern, Rows-below}
+use Rattle.pattern.specs.Peel.{Peel, Available}
+use Rattle.pattern.specs.Places.{Among, Outside, Same, place}
+use Rattle.pattern.proofs.Search.{Found, None, find, strong, outside-dec, not-outside}
+use Rattle.pattern.proofs.Once.{once-part, onto, too-many}
+use Rattle.pattern.proofs.Finding.{place-is}
+use Rattle.pattern.proofs.Pairing.{partner, partner-at, col-place, order-choice}
+
+-- ---- A sound order is a peel of full length
+
+pub sound-peel : {E : Pattern} {m : ℕ} {row col : ℕ → ℕ} → Rows-below E m → Sound E m row col → Peel E m m row col
+sound-peel {E} {m} {row} {col} b s =
+    record {
+      rows = s .rows;
+      cols = s .cols;
+      paired = s .paired;
+      passed =
+          λ i h r e.
+          let a = onto (s .rows) r (b r (col i) e) in
+          (a .0, omega (arith, s .upper (a .0) i (a .1) h (subst (λ (x : ℕ). E x (col i)) (sym (a .2)) e)), a .2);
+    }
+
+pub peel-sound : {E : Pattern} {m : ℕ} {row col : ℕ → ℕ} → Peel E m m row col → Sound E m row col
+peel-sound {E} {m} {row} {col} k =
+    record {
+      rows = k .rows;
+      cols = k .cols;
+      paired = k .paired;
+      upper =
+          λ s t hs ht e.
+          let a = k .passed t ht (row s) e in
+          omega (arith, a .1, k .rows .once (a .0) s (omega (arith, a .1)) hs (a .2));
+    }
+
+-- The first places of a peel are a peel.
+pub peel-part : {E : Pattern} {m n : ℕ} {row col : ℕ → ℕ} (k : ℕ) → k ≤ n → Peel E m n row col → Peel E m k row col
+peel-part k l p =
+    record {
+      rows = once-part k l (p .rows);
+      cols = once-part k l (p .cols);
+      paired = λ i h. p .paired i (omega arith);
+      passed = λ i h. p .passed i (omega arith);
+    }
+
+-- ---- One pairing
+
+-- Whatever full choice is made, it takes in each column of a peel the row that the peel pairs with it.
+pub one-pairing : {E : Pattern} {m n : ℕ} {row col σ : ℕ → ℕ} → Peel E m n row col → Choice E m σ → (i : ℕ) → i < n → σ (col i) ≡ row i
+one-pairing {E} {m} {n} {row} {col} {σ} k c =
+    strong (λ i. i < n → σ (col i) ≡ row i) (λ i before h. step i before h (k .passed i h (σ (col i)) (c .chosen (col i) (k .cols .below i h))))
+  where
+    -- the row chosen in column `col i` stands at a place up to `i`; at an earlier place it is the choice of that place's column
+    settle : (i : ℕ) → ((j : ℕ) → j < i → j < n → σ (col j) ≡ row j) → i < n → (a : Among row (suc i) (σ (col i))) → Dec (a .0 ≡ i)
+        → σ (col i) ≡ row i
+    settle i before h a (yes e) = sym (a .2) ∙ ap row e
+    settle i before h a (no d) =
+        absurd (d (k .cols .once (a .0) i small h (c .rows .once (col (a .0)) (col i) (k .cols .below (a .0) small) (k .cols .below i h) (before (a .0) (omega (arith, a .1)) small ∙ a .2))))
+      where
+        small : a .0 < n
+        small = omega (arith, a .1)
+
+    step : (i : ℕ) → ((j : ℕ) → j < i → j < n → σ (col j) ≡ row j) → i < n → Among row (suc i) (σ (col i)) → σ (col i) ≡ row i
+    step i before h a = settle i before h a (ℕ-discrete (a .0) i)
+
+-- So a pattern with a sound order has exactly one full choice: `order-choice`, and no other.
+pub one-choice : {E : Pattern} {m : ℕ} {row col σ : ℕ → ℕ} → Rows-below E m → Sound E m row col → Choice E m σ → Same m σ (partner m row col)
+one-choice {E} {m} {row} {col} {σ} b s c x h =
+    ap σ (sym (col-place s x h .1)) ∙ one-pairing (sound-peel b s) c (place col m x) (col-place s x h .0)
+
+-- ---- Never stuck
+
+module _ {E : Pattern} {m n : ℕ} {row col row′ col′ : ℕ → ℕ} (b : Rows-below E m) (s : Sound E m row′ col′) (k : Peel E m n row col) where
+  -- The sound order pairs as the peel does.
+  same-pairs : (i : ℕ) → i < n → partner m row′ col′ (col i) ≡ row i
+  same-pairs = one-pairing k (order-choice s)
+
+  -- The first column of the sound order that is not in the peel is available, with the row that the order pairs with it.
+  pub next-available : (t : ℕ) → t < m → Outside col n (col′ t) → ((j : ℕ) → j < t → Among col n (col′ j)) → Available E m n row col (col′ t) (row′ t)
+  next-available t l left taken =
+      record {
+        col-below = s .cols .below t l;
+        col-left = left;
+        row-below = s .rows .below t l;
+        row-left = λ i h e. left i h (order-choice s .rows .once (col i) (col′ t) (k .cols .below i h) (s .cols .below t l) (same-pairs i h ∙ e ∙ sym (partner-at s t l)));
+        present = s .paired t l;
+        only = λ r e o. which r o (sound-peel b s .passed t l r e);
+      }
+    where
+      earlier : (r j : ℕ) → Outside row n r → j < t → row′ j ≡ r → Among col n (col′ j) → ⊥
+      earlier r j o h e a = o (a .0) (a .1) (sym (same-pairs (a .0) (a .1)) ∙ ap (partner m row′ col′) (a .2) ∙ partner-at s j (omega arith) ∙ e)
+
+      which : (r : ℕ) → Outside row n r → Among row′ (suc t) r → r ≡ row′ t
+      which r o a = settle (ℕ-discrete (a .0) t)
+        where
+          settle : Dec (a .0 ≡ t) → r ≡ row′ t
+          settle (yes e) = sym (a .2) ∙ ap row′ e
+          settle (no d) = absurd (earlier r (a .0) o (omega (arith, a .1)) (a .2) (taken (a .0) (omega (arith, a .1))))
+
+  -- A peel of fewer than `m` places can go on.
+  pub never-stuck : n < m → (y : ℕ) × (r : ℕ) × Available E m n row col y r
+  never-stuck l = start (find (λ t. Outside col n (col′ t)) (λ t. outside-dec col n (col′ t)) m)
+    where
+      -- all the order's columns in fewer places: too many
+      full : None (λ t. Outside col n (col′ t)) m → ⊥
+      full h = too-many l (record { below = λ t ht. spot t ht .0; once = λ t u ht hu e. s .cols .once t u ht hu (sym (spot t ht .1) ∙ ap col e ∙ spot u hu .1) })
+        where
+          spot : (t : ℕ) → t < m → (place col n (col′ t) < n) × (col (place col n (col′ t)) ≡ col′ t)
+          spot t ht = place-is col n (col′ t) (not-outside col n (col′ t) (h t ht))
+
+      start : Found (λ t. Outside col n (col′ t)) m ⊎ None (λ t. Outside col n (col′ t)) m → (y : ℕ) × (r : ℕ) × Available E m n row col y r
+      start (inr h) = absurd (full h)
+      start (inl f) = (
+        col′ (f .number),
+        row′ (f .number),
+        next-available (f .number) (f .in-range) (f .is-so) (λ j h. not-outside col n (col′ j) (f .none-before j h)),
+      )

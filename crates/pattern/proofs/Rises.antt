@@ -1,0 +1,92 @@
+-- Lists that strictly rise: one with given numbers is one list, and a test that computes. Rests on Tests.antt.
+use mathlib.Core.Bool.{Bool, true, _&&_}
+use mathlib.Core.List.{List, [], _∷_}
+use mathlib.Core.Logic.{_⊎_, inl, inr}
+use mathlib.Core.Path.{_≡_, refl, sym, ap₂}
+use Prim.Native.Nat.{ℕ, zero, suc, _<_}
+use native.Mathlib.Omega.{arith}
+use lib.Dec.{T, ltb, ltb→lt, lt→ltb}
+use lib.ListN.{length}
+use Rattle.pattern.specs.Pattern.{has}
+use Rattle.pattern.specs.Places.{at}
+use Rattle.pattern.specs.Rising.{Rising}
+use Rattle.pattern.proofs.Tests.{and-both, and-left, and-right, has-cases, has-here, has-there, has-among}
+
+pub rising-below : {m : ℕ} {l : List ℕ} → Rising m l → (r : ℕ) → T (has l r) → r < m
+rising-below {l = l} s r h = let a = has-among l r h in omega (arith, s .below (a .0) (a .1), a .2)
+
+rising-tail : {m x : ℕ} {l : List ℕ} → Rising m (x ∷ l) → Rising m l
+rising-tail s = record { below = λ i h. s .below (suc i) (omega arith); rises = λ i h. s .rises (suc i) (omega arith) }
+
+-- What stands behind the first number is greater.
+rising-after : {m x : ℕ} {l : List ℕ} → Rising m (x ∷ l) → (r : ℕ) → T (has l r) → x < r
+rising-after {l = []} s r h = absurd h
+rising-after {x = x} {l = y ∷ l} s r h = go (has-cases y r l h) (λ u. rising-after (rising-tail s) r u)
+  where
+    go : (y ≡ r) ⊎ T (has l r) → (T (has l r) → y < r) → x < r
+    go (inl e) f = omega (arith, s .rises 0 (omega arith))
+    go (inr u) f = omega (arith, s .rises 0 (omega arith), f u)
+
+-- Lists that rise and have the same numbers are equal.
+pub rising-same : {m : ℕ} (k l : List ℕ) → Rising m k → Rising m l → ((r : ℕ) → T (has k r) → T (has l r)) → ((r : ℕ) → T (has l r) → T (has k r))
+    → k ≡ l
+rising-same [] [] s t f g = refl
+rising-same [] (y ∷ l) s t f g = absurd (g y (has-here y y l refl))
+rising-same (x ∷ k) [] s t f g = absurd (f x (has-here x x k refl))
+rising-same (x ∷ k) (y ∷ l) s t f g =
+    ap₂ _∷_ heads
+    (rising-same k l (rising-tail s) (rising-tail t) (λ r h. behind y l r (omega (arith, heads, rising-after s r h)) (has-cases y r l (f r (has-there x r k h))))
+    (λ r h. behind x k r (omega (arith, heads, rising-after t r h)) (has-cases x r k (g r (has-there y r l h)))))
+  where
+    first : (x ≡ y) ⊎ T (has k y) → (y ≡ x) ⊎ T (has l x) → x ≡ y
+    first (inl e) d = e
+    first (inr u) (inl e) = sym e
+    first (inr u) (inr v) = omega (arith, rising-after s y u, rising-after t x v)
+
+    heads : x ≡ y
+    heads = first (has-cases x y k (g y (has-here y y l refl))) (has-cases y x l (f x (has-here x x k refl)))
+
+    behind : (z : ℕ) (l : List ℕ) (r : ℕ) → z < r → (z ≡ r) ⊎ T (has l r) → T (has l r)
+    behind z l r h (inl e) = absurd (omega arith)
+    behind z l r h (inr u) = u
+
+-- ---- The test
+
+-- `x` is below the first number of a list.
+unfoldable pub under : ℕ → List ℕ → Bool
+under x [] = true
+under x (y ∷ l) = ltb x y
+
+unfoldable pub rising : ℕ → List ℕ → Bool
+rising m [] = true
+rising m (x ∷ l) = ltb x m && (under x l && rising m l)
+
+pub test-rising : (m : ℕ) (l : List ℕ) → T (rising m l) → Rising m l
+unfolding rising under
+test-rising m [] t = record { below = λ i h. absurd (omega arith); rises = λ i h. absurd (omega arith) }
+test-rising m (x ∷ l) t = go (test-rising m l (and-right (under x l) (rising m l) (and-right (ltb x m) (under x l && rising m l) t)))
+  where
+    go : Rising m l → Rising m (x ∷ l)
+    go s = record { below = low; rises = up }
+      where
+        low : (i : ℕ) → i < suc (length l) → at (x ∷ l) i < m
+        low zero h = ltb→lt x m (and-left (ltb x m) (under x l && rising m l) t)
+        low (suc i) h = s .below i (omega arith)
+
+        first : (k : List ℕ) → T (under x k) → suc zero < suc (length k) → x < at k 0
+        first [] u h = absurd (omega arith)
+        first (y ∷ k) u h = ltb→lt x y u
+
+        up : (i : ℕ) → suc i < suc (length l) → at (x ∷ l) i < at l i
+        up zero h = first l (and-left (under x l) (rising m l) (and-right (ltb x m) (under x l && rising m l) t)) h
+        up (suc i) h = s .rises i (omega arith)
+
+pub rising-test : (m : ℕ) (l : List ℕ) → Rising m l → T (rising m l)
+unfolding rising under
+rising-test m [] s = tt
+rising-test m (x ∷ l) s =
+    and-both (ltb x m) (under x l && rising m l) (lt→ltb x m (s .below 0 (omega arith))) (and-both (under x l) (rising m l) (first l (λ h. s .rises 0 h)) (rising-test m l (rising-tail s)))
+  where
+    first : (k : List ℕ) → (suc zero < suc (length k) → x < at k 0) → T (under x k)
+    first [] f = tt
+    first (y ∷ k) f = lt→ltb x y (f (omega arith))

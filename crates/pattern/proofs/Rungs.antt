@@ -1,0 +1,11 @@
+-- A ladder of refusals has one outcome at most. Rests on specs/Ladder.antt.
+use mathlib.Core.Path.{_≡_, sym, _∙_}
+use Rattle.pattern.specs.Ladder.{Unless, fails, holds}
+
+-- One rung: where the check holds, what is above it has one outcome at most. Whether it holds need not be decided.
+pub unless-one : {A P : Type 0} {x : A} {rest : A → Type 0} → (P → (o o′ : A) → rest o → rest o′ → o ≡ o′) → (o o′ : A) → Unless P x rest o
+    → Unless P x rest o′ → o ≡ o′
+unless-one u o o′ (fails n e) (fails n′ e′) = e ∙ sym e′
+unless-one u o o′ (fails n e) (holds p′ r′) = absurd (n p′)
+unless-one u o o′ (holds p r) (fails n′ e′) = absurd (n′ p)
+unless-one u o o′ (holds p r) (holds p′ r′) = u p o o′ r r′

@@ -1,0 +1,1 @@
+// The mathematics of sparse patterns: definitions in specs/, theorems in proofs/. There is no code here.
