@@ -1,4 +1,4 @@
--- Choices of entries, one in each row and each column. Rests on nothing.
+-- Choices of entries, one in each row and each column. Rests on Pattern.antt and Places.antt.
 use Prim.Native.Nat.{ℕ, _<_}
 use Rattle.pattern.specs.Pattern.{Pattern}
 use Rattle.pattern.specs.Places.{Once}

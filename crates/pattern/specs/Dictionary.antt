@@ -1,4 +1,4 @@
--- The dictionary order, and the order that leads all sound orders. Rests on nothing.
+-- The dictionary order, and the order that leads all sound orders. Rests on Order.antt.
 use mathlib.Core.Logic.{_⊎_}
 use Prim.Native.Nat.{ℕ, _<_}
 use Rattle.pattern.specs.Order.{Sound}

@@ -1,4 +1,4 @@
--- Orders that pair rows with columns, and when one is sound. Rests on nothing.
+-- Orders that pair rows with columns, and when one is sound. Rests on Pattern.antt and Places.antt.
 use mathlib.Core.List.{List}
 use mathlib.Core.Path.{_≡_}
 use Prim.Native.Nat.{ℕ, _≤_, _<_}

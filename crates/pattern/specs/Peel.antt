@@ -1,4 +1,4 @@
--- Peels: what may become a sound order, taken a place at a time from the first. Rests on nothing.
+-- Peels: what may become a sound order, taken a place at a time from the first. Rests on Pattern.antt and Places.antt.
 use mathlib.Core.Path.{_≡_}
 use Prim.Native.Nat.{ℕ, suc, _≤_, _<_}
 use Rattle.pattern.specs.Pattern.{Pattern}

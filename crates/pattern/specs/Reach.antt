@@ -1,4 +1,4 @@
--- Reach(c): where one can go from a column in the old pattern. Rests on nothing.
+-- Reach(c): where one can go from a column in the old pattern. Rests on Order.antt.
 use mathlib.Core.Path.{_≡_}
 use Prim.Native.Nat.{ℕ, _<_}
 use Rattle.pattern.specs.Order.{Paired}

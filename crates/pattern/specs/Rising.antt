@@ -1,4 +1,4 @@
--- Lists of rows as the build paper wants them: in range and strictly rising. Rests on nothing.
+-- Lists of rows as the build paper wants them: in range and strictly rising. Rests on Places.antt.
 use mathlib.Core.List.{List}
 use Prim.Native.Nat.{ℕ, suc, _<_}
 use lib.ListN.{length}

@@ -1,5 +1,5 @@
 -- What a replacement of one column is to be answered, over all choices and all orders: the third condition, with the order,
--- the bump and the eta rows of the build paper. Rests on nothing.
+-- the bump and the eta rows of the build paper. Rests on all the other files here but Peel.antt and Ladder.antt.
 use mathlib.Core.List.{List, [], _∷_, _++_}
 use mathlib.Core.Logic.{_≢_, _↔_}
 use mathlib.Core.Path.{_≡_}
