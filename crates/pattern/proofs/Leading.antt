@@ -1,16 +1,17 @@
 -- The first of all sound orders: a greedy full peel leads them under any key, and no two orders lead. Rests on Peeling.antt.
 use mathlib.Core.Logic.{_≢_, _⊎_, inl, inr, Dec·not, Dec·not-not}
 use mathlib.Core.Path.{_≡_, sym, ap, _∙_}
-use Prim.Native.Nat.{ℕ, _<_}
+use Prim.Native.Nat.{ℕ, _≤_, _<_}
 use native.Mathlib.Decide.{ℕ-discrete, decLt}
 use native.Mathlib.Omega.{arith}
 use Rattle.pattern.specs.Dictionary.{Not-after, Leading}
 use Rattle.pattern.specs.Order.{Sound}
 use Rattle.pattern.specs.Pattern.{Pattern, Rows-below}
 use Rattle.pattern.specs.Peel.{Available, Greedy}
-use Rattle.pattern.specs.Places.{Once, Same}
+use Rattle.pattern.specs.Places.{Once, Same, place}
 use Rattle.pattern.proofs.Search.{Found, None, find}
-use Rattle.pattern.proofs.Pairing.{partner, partner-at, order-choice}
+use Rattle.pattern.proofs.Finding.{place-at}
+use Rattle.pattern.proofs.Pairing.{partner, col-place, partner-at, order-choice}
 use Rattle.pattern.proofs.Peeling.{sound-peel, peel-sound, peel-part, one-pairing, next-available}
 
 -- Of two rows neither of which is after the other, each is the other.
@@ -59,6 +60,14 @@ greedy-leads {E} {m} {key} {row} {col} b d g = record { sound = s; leads = λ ro
                 next-available b t (peel-part (f .number) (omega (arith, f .in-range)) (g .peel)) (f .number) (f .in-range)
                 (λ j l e. apart j l (t .cols .once j (f .number) (small j l) (f .in-range) (sym (before j l) ∙ e)))
                 (λ j l. (j, l, before j l))
+
+-- A sound order is greedy for its own places.
+pub own-greedy : {E : Pattern} {m : ℕ} {row col : ℕ → ℕ} → Rows-below E m → Sound E m row col → Greedy E m (place col m) row col
+own-greedy {E} {m} {row} {col} b s = record { peel = sound-peel b s; least = λ i h y r v. go i h y r v (decLt (place col m y) i) }
+  where
+    go : (i : ℕ) → i < m → (y r : ℕ) → Available E m i row col y r → Dec (place col m y < i) → place col m (col i) ≤ place col m y
+    go i h y r v (yes l) = absurd (v .col-left (place col m y) l (col-place s y (v .col-below) .1))
+    go i h y r v (no l) = omega (arith, place-at (s .cols) i h)
 
 -- Sound orders with the same columns have the same rows.
 pub same-rows : {E : Pattern} {m : ℕ} {row col row′ col′ : ℕ → ℕ} → Rows-below E m → Sound E m row col → Sound E m row′ col′ → Same m col col′

@@ -39,7 +39,7 @@ use Rattle.pattern.specs.Verdict.{
 use Rattle.pattern.proofs.Tests.{has-cases}
 use Rattle.pattern.proofs.Finding.{place-at, place-once}
 use Rattle.pattern.proofs.Pairing.{col-place, order-choice}
-use Rattle.pattern.proofs.Leading.{leading-unique}
+use Rattle.pattern.proofs.Leading.{greedy-leads, own-greedy, leading-unique}
 use Rattle.pattern.proofs.NoChoice.{unreached-no-choice}
 use Rattle.pattern.proofs.SomeChoice.{reach-later}
 use Rattle.pattern.proofs.ToLast.{to-last-sound}
@@ -94,7 +94,7 @@ top-place-high row m (x ∷ l) r h = go (has-cases x r l h) (λ u. top-place-hig
 
 module _ (a : Replacement) (t : Taken a) where
   pub old-sound : Sound (Old a) (size a) (row-at a) (col-at a)
-  old-sound = t .order .sound
+  old-sound = t .register .order .sound
 
   -- `set` makes the spiked pattern.
   pub spiked : Spiked (Old a) (Spike a) (a .replaced) (λ r. T (has (a .new-rows) r))
@@ -119,7 +119,7 @@ module _ (a : Replacement) (t : Taken a) where
     where
       go : Dec (y ≡ a .replaced) → r < size a
       go (yes u) = rising-below (t .new-rise) r (spiked .changed r .0 (subst (Spike a r) u e))
-      go (no u) = t .rows-below r y (spiked .others r y u .1 e)
+      go (no u) = t .register .rows-below r y (spiked .others r y u .1 e)
 
   -- Columns have different old places.
   pub old-place-once : Once (old-place a) (size a) (size a)
@@ -155,14 +155,23 @@ module _ (a : Replacement) (t : Taken a) where
   judged-unique (Elimination p q b e) (Permuted p′ q′) x y = absurd (x .not-permuted (at p′, at q′, y .leading .sound))
   judged-unique (Elimination p q b e) (Elimination p′ q′ b′ e′) x y = elimination-once x y
 
-  -- ---- The order after an elimination, and its bump
+  -- ---- The order after a verdict, and the bump
+
+  -- Where the old order is still sound, it stays: read as old places it is 0, 1 .. m - 1, and nothing precedes that.
+  pub order-stays : Sound (Spike a) (size a) (row-at a) (col-at a) → Judged a (Permuted (a .order-rows) (a .order-cols))
+  order-stays s =
+      record {
+        row-count = t .register .order .row-count;
+        col-count = t .register .order .col-count;
+        leading = greedy-leads spike-rows old-place-once (own-greedy spike-rows s);
+      }
 
   -- With the row of c cleared and given the single entry at c, the moved order is sound.
   pub elimination-sound : {p q e : List ℕ} {b : ℕ} {E″ : Pattern} → Is-elimination a p q b e
       → Cleared (Spike a) E″ (c-row a) (a .replaced) → Sound-order E″ (size a) p q
   elimination-sound {E″ = E″} x k =
       subst₂ (Sound-order E″ (size a)) (sym (x .rows-after)) (sym (x .cols-after))
-      (to-last-sound (c-place a) (here .0) (t .order) (subst (λ (y : ℕ). Spiked (Old a) (Spike a) y (λ r. T (has (a .new-rows) r))) (sym (here .1)) spiked)
+      (to-last-sound (c-place a) (here .0) (t .register .order) (subst (λ (y : ℕ). Spiked (Old a) (Spike a) y (λ r. T (has (a .new-rows) r))) (sym (here .1)) spiked)
       (subst (Cleared (Spike a) E″ (c-row a)) (sym (here .1)) k))
     where
       here : (c-place a < size a) × (col-at a (c-place a) ≡ a .replaced)

@@ -1,9 +1,9 @@
--- Orders that pair rows with columns, and when one is sound. Rests on Pattern.antt and Places.antt.
+-- Orders that pair rows with columns, and when an order and a register are sound. Rests on Pattern.antt and Places.antt.
 use mathlib.Core.List.{List}
 use mathlib.Core.Path.{_≡_}
 use Prim.Native.Nat.{ℕ, _≤_, _<_}
 use lib.ListN.{length}
-use Rattle.pattern.specs.Pattern.{Pattern}
+use Rattle.pattern.specs.Pattern.{Pattern, Entry, Rows-below}
 use Rattle.pattern.specs.Places.{at, Once}
 
 -- A sound order of size `m`: place `t` pairs row `row t` with column `col t`. Each number below `m` stands once among the
@@ -20,6 +20,11 @@ pub record Sound-order (E : Pattern) (m : ℕ) (rows cols : List ℕ) : Type 0 w
   pub row-count : length rows ≡ m
   pub col-count : length cols ≡ m
   pub sound : Sound E m (at rows) (at cols)
+
+-- A sound register: the rows of each column are in range, and the order is sound for the pattern that they make.
+pub record Sound-register (P : List (List ℕ)) (rows cols : List ℕ) : Type 0 where
+  pub rows-below : Rows-below (Entry P) (length P)
+  pub order : Sound-order (Entry P) (length P) rows cols
 
 -- Some ordering of the rows with some ordering of the columns is sound.
 abbrev pub Triangular : Pattern → ℕ → Type 0

@@ -8,8 +8,8 @@ use lib.Dec.{T}
 use lib.ListN.{length, set, take, drop}
 use Rattle.pattern.specs.Choice.{No-choice}
 use Rattle.pattern.specs.Dictionary.{Leading}
-use Rattle.pattern.specs.Order.{Sound-order, Triangular, Paired}
-use Rattle.pattern.specs.Pattern.{Pattern, has, Entry, Rows-below}
+use Rattle.pattern.specs.Order.{Sound-register, Triangular, Paired}
+use Rattle.pattern.specs.Pattern.{Pattern, has, Entry}
 use Rattle.pattern.specs.Places.{at, place}
 use Rattle.pattern.specs.Reach.{Reach}
 use Rattle.pattern.specs.Rising.{Rising}
@@ -57,8 +57,7 @@ module _ (a : Replacement) where
 
   -- What may be judged: the register is sound, the column is one of it, and the new rows are in range and strictly rise.
   pub record Taken : Type 0 where
-    pub rows-below : Rows-below Old size
-    pub order : Sound-order Old size (a .order-rows) (a .order-cols)
+    pub register : Sound-register (a .columns) (a .order-rows) (a .order-cols)
     pub column-below : a .replaced < size
     pub new-rise : Rising size (a .new-rows)
 

@@ -7,7 +7,7 @@ use Prim.Native.Nat.{ℕ, zero, suc}
 use native.Mathlib.Omega.{arith}
 use lib.Dec.{T}
 use lib.ListN.{length}
-use Rattle.pattern.specs.Order.{Sound-order}
+use Rattle.pattern.specs.Order.{Sound-order, Sound-register}
 use Rattle.pattern.specs.Pattern.{Entry, Rows-below}
 use Rattle.pattern.specs.Places.{least, place}
 use Rattle.pattern.specs.Verdict.{Replacement, size, to-last, top-place}
@@ -20,7 +20,7 @@ use Rattle.pattern.proofs.Rises.{under, rising, test-rising, rising-below}
 use Rattle.pattern.proofs.Tests.{and-left, and-right, meets}
 use Rattle.specimens.specs.Reply.{Reply, Replied}
 use Rattle.specimens.specs.Table.{Specimen, table, Right, Each}
-use Rattle.specimens.proofs.Replies.{Sound-register, reply-of, reply-right}
+use Rattle.specimens.proofs.Replies.{reply-of, reply-right}
 
 -- ---- The starting order t:t is sound
 
@@ -54,6 +54,10 @@ table-computes = refl
 
 -- ---- A specimen that computes is right
 
+-- The register that it starts from is sound.
+abbrev pub Starts : Specimen → Type 0
+Starts s = Sound-register (s .asked .columns) (s .asked .order-rows) (s .asked .order-cols)
+
 module _ (s : Specimen) (e : computed s ≡ told s) where
   abbrev a : Replacement
   a = s .asked
@@ -63,7 +67,7 @@ module _ (s : Specimen) (e : computed s ≡ told s) where
   columns-good = subst T (sym (ap (λ (f : Row). f .0) e)) tt
 
   -- The order is sound: it is a peel of full length.
-  starts-sound : Sound-register a
+  starts-sound : Starts s
   unfolding computed told
   starts-sound = record { rows-below = below; order = go (subst Ends (ap (λ (f : Row). f .2) e) (peeled-is (a .columns) (size a) below (λ i. i) (record { below = λ i h. h; once = λ i j hi hj u. u }))) }
     where
@@ -92,5 +96,5 @@ pub specimens : Each Right table
 specimens = each computed-right table table-computes
 
 -- And every register of it is sound.
-pub registers : Each (λ s. Sound-register (s .asked)) table
+pub registers : Each Starts table
 registers = each starts-sound table table-computes

@@ -4,27 +4,21 @@ use mathlib.Core.Path.{_≡_, refl, sym, ap, _∙_, subst}
 use Prim.Native.Nat.{_<_}
 use lib.Dec.{T, ltb, ltb→lt, lt→ltb}
 use Rattle.pattern.specs.Ladder.{Unless, fails, holds}
-use Rattle.pattern.specs.Order.{Sound-order}
-use Rattle.pattern.specs.Pattern.{Rows-below}
+use Rattle.pattern.specs.Order.{Sound-register}
 use Rattle.pattern.specs.Rising.{Rising}
-use Rattle.pattern.specs.Verdict.{Replacement, size, Old, Taken, Verdict, Judged}
+use Rattle.pattern.specs.Verdict.{Replacement, size, Taken, Verdict, Judged}
 use Rattle.pattern.proofs.Computed.{verdict-of, verdict-right}
 use Rattle.pattern.proofs.Rises.{rising, test-rising, rising-test}
 use Rattle.pattern.proofs.Rungs.{unless-one}
 use Rattle.pattern.proofs.Verdicts.{judged-unique}
 use Rattle.specimens.specs.Reply.{Reply, Refused, Given, Replied}
 
--- The register that is asked about is sound.
-pub record Sound-register (a : Replacement) : Type 0 where
-  pub rows-below : Rows-below (Old a) (size a)
-  pub order : Sound-order (Old a) (size a) (a .order-rows) (a .order-cols)
-
 unfoldable pub reply-of : Replacement → Reply
 reply-of a = cond (ltb (a .replaced) (size a)) (cond (rising (size a) (a .new-rows)) (Given (verdict-of a)) (Refused 7)) (Refused 6)
 
-module _ (a : Replacement) (s : Sound-register a) where
+module _ (a : Replacement) (s : Sound-register (a .columns) (a .order-rows) (a .order-cols)) where
   taken : a .replaced < size a → Rising (size a) (a .new-rows) → Taken a
-  taken c n = record { rows-below = s .rows-below; order = s .order; column-below = c; new-rise = n }
+  taken c n = record { register = s; column-below = c; new-rise = n }
 
   pub reply-right : Replied a (reply-of a)
   unfolding reply-of

@@ -39,22 +39,45 @@ D = (0 ∷ []) ∷ (0 ∷ 1 ∷ []) ∷ (1 ∷ 2 ∷ []) ∷ []
 abbrev pub E : List (List ℕ)
 E = (0 ∷ []) ∷ []
 
--- s1 to s12.
+-- The replacements by the paper's names: the pattern, the column, its new rows, and the reply.
+abbrev pub s1 : Specimen
+s1 = specimen E 0 (0 ∷ []) (Given (Permuted (0 ∷ []) (0 ∷ [])))
+
+abbrev pub s2 : Specimen
+s2 = specimen E 0 [] (Given Singular)
+
+abbrev pub s3 : Specimen
+s3 = specimen A 0 (0 ∷ []) (Given (Permuted (0 ∷ 1 ∷ 2 ∷ []) (0 ∷ 1 ∷ 2 ∷ [])))
+
+abbrev pub s4 : Specimen
+s4 = specimen A 0 (0 ∷ 2 ∷ []) (Given (Permuted (2 ∷ 0 ∷ 1 ∷ []) (2 ∷ 0 ∷ 1 ∷ [])))
+
+abbrev pub s5 : Specimen
+s5 = specimen A 0 (0 ∷ 1 ∷ []) (Given (Elimination (1 ∷ 2 ∷ 0 ∷ []) (1 ∷ 2 ∷ 0 ∷ []) 2 (1 ∷ [])))
+
+abbrev pub s6 : Specimen
+s6 = specimen A 0 (1 ∷ []) (Given (Permuted (1 ∷ 0 ∷ 2 ∷ []) (0 ∷ 1 ∷ 2 ∷ [])))
+
+abbrev pub s7 : Specimen
+s7 = specimen A 0 (2 ∷ []) (Given Singular)
+
+abbrev pub s8 : Specimen
+s8 = specimen B 0 (1 ∷ 2 ∷ []) (Given (Elimination (1 ∷ 2 ∷ 0 ∷ []) (1 ∷ 2 ∷ 0 ∷ []) 3 (1 ∷ 2 ∷ [])))
+
+abbrev pub s9 : Specimen
+s9 = specimen C 0 (2 ∷ []) (Given (Elimination (1 ∷ 2 ∷ 0 ∷ []) (1 ∷ 2 ∷ 0 ∷ []) 3 (1 ∷ 2 ∷ [])))
+
+abbrev pub s10 : Specimen
+s10 = specimen D 0 (2 ∷ []) (Given (Permuted (2 ∷ 1 ∷ 0 ∷ []) (0 ∷ 2 ∷ 1 ∷ [])))
+
+abbrev pub s11 : Specimen
+s11 = specimen A 0 (2 ∷ 0 ∷ []) (Refused 7)
+
+abbrev pub s12 : Specimen
+s12 = specimen A 3 (2 ∷ 0 ∷ []) (Refused 6)
+
 abbrev pub table : List Specimen
-table =
-    specimen E 0 (0 ∷ []) (Given (Permuted (0 ∷ []) (0 ∷ [])))
-    ∷ specimen E 0 [] (Given Singular)
-    ∷ specimen A 0 (0 ∷ []) (Given (Permuted (0 ∷ 1 ∷ 2 ∷ []) (0 ∷ 1 ∷ 2 ∷ [])))
-    ∷ specimen A 0 (0 ∷ 2 ∷ []) (Given (Permuted (2 ∷ 0 ∷ 1 ∷ []) (2 ∷ 0 ∷ 1 ∷ [])))
-    ∷ specimen A 0 (0 ∷ 1 ∷ []) (Given (Elimination (1 ∷ 2 ∷ 0 ∷ []) (1 ∷ 2 ∷ 0 ∷ []) 2 (1 ∷ [])))
-    ∷ specimen A 0 (1 ∷ []) (Given (Permuted (1 ∷ 0 ∷ 2 ∷ []) (0 ∷ 1 ∷ 2 ∷ [])))
-    ∷ specimen A 0 (2 ∷ []) (Given Singular)
-    ∷ specimen B 0 (1 ∷ 2 ∷ []) (Given (Elimination (1 ∷ 2 ∷ 0 ∷ []) (1 ∷ 2 ∷ 0 ∷ []) 3 (1 ∷ 2 ∷ [])))
-    ∷ specimen C 0 (2 ∷ []) (Given (Elimination (1 ∷ 2 ∷ 0 ∷ []) (1 ∷ 2 ∷ 0 ∷ []) 3 (1 ∷ 2 ∷ [])))
-    ∷ specimen D 0 (2 ∷ []) (Given (Permuted (2 ∷ 1 ∷ 0 ∷ []) (0 ∷ 2 ∷ 1 ∷ [])))
-    ∷ specimen A 0 (2 ∷ 0 ∷ []) (Refused 7)
-    ∷ specimen A 3 (2 ∷ 0 ∷ []) (Refused 6)
-    ∷ []
+table = s1 ∷ s2 ∷ s3 ∷ s4 ∷ s5 ∷ s6 ∷ s7 ∷ s8 ∷ s9 ∷ s10 ∷ s11 ∷ s12 ∷ []
 
 -- The specimen's reply is right.
 abbrev pub Right : Specimen → Type 0
