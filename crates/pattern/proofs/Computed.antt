@@ -11,6 +11,7 @@ use lib.ListN.{length}
 use Rattle.pattern.specs.Choice.{No-choice}
 use Rattle.pattern.specs.Order.{Sound, Paired}
 use Rattle.pattern.specs.Pattern.{has}
+use Rattle.pattern.specs.Places.{numbers}
 use Rattle.pattern.specs.Reach.{Reach}
 use Rattle.pattern.specs.Verdict.{
   Replacement,
@@ -39,7 +40,7 @@ use Rattle.pattern.proofs.NoChoice.{unreached-no-choice}
 use Rattle.pattern.proofs.SomeChoice.{reached-choice}
 use Rattle.pattern.proofs.Peeled.{peeled, Full, Stuck, peeled-is}
 use Rattle.pattern.proofs.Reaching.{reached, reached-rows}
-use Rattle.pattern.proofs.Numbers.{numbers, numbers-rise, numbers-are}
+use Rattle.pattern.proofs.Numbers.{numbers-rise, numbers-are}
 use Rattle.pattern.proofs.Verdicts.{old-sound, spiked, spike-rows, old-place-once}
 
 -- ---- The verdict

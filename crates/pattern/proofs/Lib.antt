@@ -10,10 +10,15 @@ pub mod NoChoice
 pub mod SomeChoice
 pub mod ToLast
 pub mod Rises
+pub mod Greatest
 pub mod Verdicts
 pub mod Growing
 pub mod Peeled
 pub mod Reaching
 pub mod Numbers
+pub mod Each
+pub mod Turning
+pub mod Tallies
+pub mod Flats
 pub mod Computed
 pub mod Rungs

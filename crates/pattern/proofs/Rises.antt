@@ -1,19 +1,57 @@
 -- Lists that strictly rise: one with given numbers is one list, and a test that computes. Rests on Tests.antt.
 use mathlib.Core.Bool.{Bool, true, _&&_}
-use mathlib.Core.List.{List, [], _∷_}
-use mathlib.Core.Logic.{_⊎_, inl, inr}
-use mathlib.Core.Path.{_≡_, refl, sym, ap₂}
+use mathlib.Core.List.{List, [], _∷_, _++_}
+use mathlib.Core.Logic.{_⊎_, inl, inr, ⊎-elim}
+use mathlib.Core.Path.{_≡_, refl, sym, ap, ap₂, _∙_}
 use Prim.Native.Nat.{ℕ, zero, suc, _<_}
 use native.Mathlib.Omega.{arith}
 use lib.Dec.{T, ltb, ltb→lt, lt→ltb}
-use lib.ListN.{length}
+use lib.ListN.{length, length-append, List·getD-append}
+use lib.Seq.{getD-append-seam}
 use Rattle.pattern.specs.Pattern.{has}
 use Rattle.pattern.specs.Places.{at}
 use Rattle.pattern.specs.Rising.{Rising}
+use Rattle.pattern.proofs.Search.{last-or}
 use Rattle.pattern.proofs.Tests.{and-both, and-left, and-right, has-cases, has-here, has-there, has-among}
 
 pub rising-below : {m : ℕ} {l : List ℕ} → Rising m l → (r : ℕ) → T (has l r) → r < m
 rising-below {l = l} s r h = let a = has-among l r h in omega (arith, s .below (a .0) (a .1), a .2)
+
+pub rising-none : {m : ℕ} → Rising m []
+rising-none = record { below = λ i h. absurd (omega arith); rises = λ i h. absurd (omega arith) }
+
+-- Numbers below `n` are below `n + 1`, also with `n` behind them.
+pub rising-wider : {n : ℕ} {l : List ℕ} → Rising n l → Rising (suc n) l
+rising-wider s = record { below = λ i h. omega (arith, s .below i h); rises = s .rises }
+
+pub rising-one-more : {n : ℕ} {l : List ℕ} → Rising n l → Rising (suc n) (l ++ (n ∷ []))
+rising-one-more {n} {l} s = record { below = λ i h. low i (last-or (length l) i (rw seam at h)); rises = λ i h. up i (last-or (length l) (suc i) (rw seam at h)) }
+  where
+    k : List ℕ
+    k = l ++ (n ∷ [])
+
+    seam : length (l ++ (n ∷ [])) ≡ suc (length l)
+    seam = simp length-append (omega arith)
+
+    front : (i : ℕ) → i < length l → at k i ≡ at l i
+    front i h = List·getD-append l (n ∷ []) 0 i h
+
+    end : (i : ℕ) → i ≡ length l → at k i ≡ n
+    end i e = ap (at k) e ∙ getD-append-seam l n [] 0
+
+    low : (i : ℕ) → (i < length l) ⊎ (i ≡ length l) → at k i < suc n
+    low i (inl h) = omega (arith, front i h, s .below i h)
+    low i (inr e) = omega (arith, end i e)
+
+    up : (i : ℕ) → (suc i < length l) ⊎ (suc i ≡ length l) → at k i < at k (suc i)
+    up i (inl h) = omega (arith, front i (omega arith), front (suc i) h, s .rises i h)
+    up i (inr e) = omega (arith, front i (omega arith), end (suc i) e, s .below i (omega arith))
+
+-- Over any distance.
+pub rising-less : {m : ℕ} {l : List ℕ} → Rising m l → (i j : ℕ) → i < j → j < length l → at l i < at l j
+rising-less s i zero h k = absurd (omega arith)
+rising-less {l = l} s i (suc j) h k =
+    ⊎-elim (λ u. omega (arith, s .rises j k, rising-less s i j u (omega arith))) (λ e. omega (arith, s .rises j k, ap (at l) e)) (last-or j i h)
 
 rising-tail : {m x : ℕ} {l : List ℕ} → Rising m (x ∷ l) → Rising m l
 rising-tail s = record { below = λ i h. s .below (suc i) (omega arith); rises = λ i h. s .rises (suc i) (omega arith) }

@@ -1,8 +1,8 @@
 -- Tests that compute, and what each says: of two Booleans, of a number in a list, of two lists with a number in common.
 -- Rests on specs/Pattern.antt.
 use mathlib.Core.Bool.{Bool, true, false, _&&_, _||_}
-use mathlib.Core.List.{List, [], _∷_}
-use mathlib.Core.Logic.{_⊎_, inl, inr}
+use mathlib.Core.List.{List, [], _∷_, _++_}
+use mathlib.Core.Logic.{_⊎_, inl, inr, ⊎-elim}
 use mathlib.Core.Path.{_≡_, refl, sym, subst}
 use Prim.Native.Nat.{ℕ, zero, suc, _<_}
 use native.Mathlib.Omega.{arith}
@@ -66,6 +66,22 @@ has-here x r l e = or-left (eqb x r) (has l r) (eq-eqb x r e)
 
 pub has-there : (x r : ℕ) (l : List ℕ) → T (has l r) → T (has (x ∷ l) r)
 has-there x r l t = or-right (eqb x r) (has l r) t
+
+pub has-append : (k l : List ℕ) (r : ℕ) → T (has (k ++ l) r) → T (has k r) ⊎ T (has l r)
+has-append [] l r t = inr t
+has-append (x ∷ k) l r t = go (or-cases (eqb x r) (has (k ++ l) r) t) (λ u. has-append k l r u)
+  where
+    go : T (eqb x r) ⊎ T (has (k ++ l) r) → (T (has (k ++ l) r) → T (has k r) ⊎ T (has l r)) → T (has (x ∷ k) r) ⊎ T (has l r)
+    go (inl u) f = inl (or-left (eqb x r) (has k r) u)
+    go (inr u) f = ⊎-elim (λ v. inl (has-there x r k v)) (λ v. inr v) (f u)
+
+pub has-right : (k l : List ℕ) (r : ℕ) → T (has l r) → T (has (k ++ l) r)
+has-right [] l r t = t
+has-right (x ∷ k) l r t = has-there x r (k ++ l) (has-right k l r t)
+
+pub has-left : (k l : List ℕ) (r : ℕ) → T (has k r) → T (has (k ++ l) r)
+has-left [] l r t = absurd t
+has-left (x ∷ k) l r t = ⊎-elim (λ e. has-here x r (k ++ l) e) (λ u. has-there x r (k ++ l) (has-left k l r u)) (has-cases x r k t)
 
 -- The test passes for the numbers that stand at some place, and for no others.
 pub has-among : (l : List ℕ) (r : ℕ) → T (has l r) → Among (at l) (length l) r

@@ -1,10 +1,10 @@
 -- What the statement of a verdict comes to: each verdict is given exactly when the third condition says so, no two verdicts
 -- are right for one replacement, the order after it is sound, and the bump's difference is a true one.
--- Rests on Leading.antt, NoChoice.antt, SomeChoice.antt, ToLast.antt and Rises.antt.
-use mathlib.Core.List.{List, [], _∷_}
-use mathlib.Core.Logic.{_≢_, _↔_, _⊎_, inl, inr}
+-- Rests on Leading.antt, NoChoice.antt, SomeChoice.antt, ToLast.antt, Rises.antt and Greatest.antt.
+use mathlib.Core.List.{List, []}
+use mathlib.Core.Logic.{_≢_, _↔_}
 use mathlib.Core.Path.{_≡_, refl, sym, ap, ap₂, _∙_, subst, subst₂}
-use Prim.Native.Nat.{ℕ, _≤_, _<_, max}
+use Prim.Native.Nat.{ℕ, _≤_, _<_}
 use native.Mathlib.Decide.{ℕ-discrete, decLt}
 use native.Mathlib.Omega.{arith}
 use lib.Dec.{T}
@@ -36,7 +36,6 @@ use Rattle.pattern.specs.Verdict.{
   Is-elimination,
   Judged,
 }
-use Rattle.pattern.proofs.Tests.{has-cases}
 use Rattle.pattern.proofs.Finding.{place-at, place-once}
 use Rattle.pattern.proofs.Pairing.{col-place, order-choice}
 use Rattle.pattern.proofs.Leading.{greedy-leads, own-greedy, leading-unique}
@@ -44,6 +43,7 @@ use Rattle.pattern.proofs.NoChoice.{unreached-no-choice}
 use Rattle.pattern.proofs.SomeChoice.{reach-later}
 use Rattle.pattern.proofs.ToLast.{to-last-sound}
 use Rattle.pattern.proofs.Rises.{rising-below, rising-same}
+use Rattle.pattern.proofs.Greatest.{greatest-high}
 
 -- ---- Each verdict exactly when the third condition says so
 
@@ -79,16 +79,6 @@ module _ (a : Replacement) where
       back Singular j n = absurd (n .0 j)
       back (Permuted p q) j n = absurd (n .1 (at p, at q, j .leading .sound))
       back (Elimination p q b e) j n = (p, q, b, e, refl)
-
--- The place of a number of the list is at most the greatest.
-top-place-high : (row : ℕ → ℕ) (m : ℕ) (l : List ℕ) (r : ℕ) → T (has l r) → place row m r ≤ top-place row m l
-unfolding top-place
-top-place-high row m [] r h = absurd h
-top-place-high row m (x ∷ l) r h = go (has-cases x r l h) (λ u. top-place-high row m l r u)
-  where
-    go : (x ≡ r) ⊎ T (has l r) → (T (has l r) → place row m r ≤ top-place row m l) → place row m r ≤ max (place row m x) (top-place row m l)
-    go (inl e) f = omega (arith, ap (place row m) e)
-    go (inr u) f = omega (arith, f u)
 
 -- ---- What is taken
 
@@ -191,7 +181,7 @@ module _ (a : Replacement) (t : Taken a) where
           low y r k d n =
               omega (
                 arith,
-                top-place-high (row-at a) (size a) (a .new-rows) r n,
+                greatest-high (place (row-at a) (size a)) (a .new-rows) r n,
                 reach-later old-sound (t .column-below) k,
                 ap (old-place a) (d .3),
                 ap (place (row-at a) (size a)) (d .2),

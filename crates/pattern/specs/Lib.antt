@@ -2,6 +2,8 @@
 pub mod Places
 pub mod Rising
 pub mod Pattern
+pub mod Flat
+pub mod Turned
 pub mod Order
 pub mod Choice
 pub mod Reach

@@ -3,14 +3,14 @@
 use mathlib.Core.List.{List, [], _∷_, _++_}
 use mathlib.Core.Logic.{_≢_, _↔_}
 use mathlib.Core.Path.{_≡_}
-use Prim.Native.Nat.{ℕ, suc, _+_, _-_, _<_, max}
+use Prim.Native.Nat.{ℕ, suc, _+_, _-_, _<_}
 use lib.Dec.{T}
 use lib.ListN.{length, set, take, drop}
 use Rattle.pattern.specs.Choice.{No-choice}
 use Rattle.pattern.specs.Dictionary.{Leading}
 use Rattle.pattern.specs.Order.{Sound-register, Triangular, Paired}
 use Rattle.pattern.specs.Pattern.{Pattern, has, Entry}
-use Rattle.pattern.specs.Places.{at, place}
+use Rattle.pattern.specs.Places.{at, place, greatest}
 use Rattle.pattern.specs.Reach.{Reach}
 use Rattle.pattern.specs.Rising.{Rising}
 
@@ -74,9 +74,8 @@ unfoldable pub to-last : ℕ → List ℕ → List ℕ
 to-last t l = take t l ++ drop (suc t) l ++ (at l t ∷ [])
 
 -- The greatest place among `row 0 .. row (m - 1)` of a number of the list.
-unfoldable pub top-place : (ℕ → ℕ) → ℕ → List ℕ → ℕ
-top-place row m [] = 0
-top-place row m (r ∷ l) = max (place row m r) (top-place row m l)
+abbrev pub top-place : (ℕ → ℕ) → ℕ → List ℕ → ℕ
+top-place row m l = greatest (place row m) l
 
 module _ (a : Replacement) where
   -- PERMUTED: of the sound orders this is the first when its columns are read as their old places.

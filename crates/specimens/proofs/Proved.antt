@@ -9,10 +9,9 @@ use lib.Dec.{T}
 use lib.ListN.{length}
 use Rattle.pattern.specs.Order.{Sound-order, Sound-register}
 use Rattle.pattern.specs.Pattern.{Entry, Rows-below}
-use Rattle.pattern.specs.Places.{least, place}
-use Rattle.pattern.specs.Verdict.{Replacement, size, to-last, top-place}
+use Rattle.pattern.specs.Places.{least, place, numbers, greatest}
+use Rattle.pattern.specs.Verdict.{Replacement, size, to-last}
 use Rattle.pattern.proofs.Computed.{reach-rows, eta-rows, unpermuted, after-peel, verdict-of}
-use Rattle.pattern.proofs.Numbers.{numbers-before, numbers}
 use Rattle.pattern.proofs.Peeled.{left, all-but, available, grow, peeled, Full, Stuck, peeled-is}
 use Rattle.pattern.proofs.Peeling.{peel-sound}
 use Rattle.pattern.proofs.Reaching.{reached}
@@ -49,7 +48,7 @@ unfoldable pub told : Specimen → Row
 told s = let a = s .asked in (true, length (a .order-rows), (a .order-rows, a .order-cols), s .reply)
 
 table-computes : map computed table ≡ map told table
-unfolding computed told columns-rise rising under peeled grow available left all-but least place reply-of verdict-of after-peel unpermuted reach-rows eta-rows reached meets numbers numbers-before to-last top-place
+unfolding computed told columns-rise rising under peeled grow available left all-but least place reply-of verdict-of after-peel unpermuted reach-rows eta-rows reached meets numbers to-last greatest
 table-computes = refl
 
 -- ---- A specimen that computes is right

@@ -1,0 +1,25 @@
+-- The list `f 0 .. f (n - 1)`: its length, its places, and that a list is such a list. Rests on specs/Places.antt.
+use mathlib.Core.List.{List, [], _∷_}
+use mathlib.Core.Path.{_≡_, refl, ap, ap₂}
+use Prim.Native.Nat.{ℕ, zero, suc, _<_}
+use native.Mathlib.Omega.{arith}
+use lib.ListN.{length, getD}
+use Rattle.pattern.specs.Places.{each}
+
+module _ {A : Type 0} where
+  pub length-each : (f : ℕ → A) (n : ℕ) → length (each f n) ≡ n
+  length-each f zero = refl
+  length-each f (suc n) = ap suc (length-each (λ i. f (suc i)) n)
+
+  pub each-at : (f : ℕ → A) (n i : ℕ) (d : A) → i < n → getD (each f n) i d ≡ f i
+  each-at f zero i d h = absurd (omega arith)
+  each-at f (suc n) zero d h = refl
+  each-at f (suc n) (suc i) d h = each-at (λ j. f (suc j)) n i d (omega arith)
+
+  pub each-same : (f g : ℕ → A) (n : ℕ) → ((i : ℕ) → i < n → f i ≡ g i) → each f n ≡ each g n
+  each-same f g zero e = refl
+  each-same f g (suc n) e = ap₂ _∷_ (e zero (omega arith)) (each-same (λ i. f (suc i)) (λ i. g (suc i)) n (λ i h. e (suc i) (omega arith)))
+
+  pub each-is : (l : List A) (d : A) → each (λ i. getD l i d) (length l) ≡ l
+  each-is [] d = refl
+  each-is (x ∷ l) d = ap (λ (k : List A). x ∷ k) (each-is l d)

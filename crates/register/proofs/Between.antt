@@ -1,0 +1,31 @@
+-- What stands between two places of a list. Rests on specs/Listing.antt.
+use mathlib.Core.List.{List, [], _∷_, _++_}
+use mathlib.Core.Path.{_≡_, sym, ap, _∙_}
+use Prim.Native.Nat.{ℕ, _+_, _-_, _≤_, _<_, suc}
+use native.Mathlib.Omega.{arith}
+use lib.ListN.{length, take, drop, length-take, length-drop}
+use lib.Seq.{ext-getD, getD-take, getD-drop, take-suc}
+use Rattle.pattern.specs.Places.{at}
+use Rattle.register.specs.Listing.{between}
+
+module _ (a b : ℕ) (l : List ℕ) where
+  pub between-length : b ≤ length l → length (between a b l) ≡ b - a
+  between-length h = length-take (b - a) (drop a l) ∙ omega (arith, length-drop a l)
+
+  pub between-at : (i : ℕ) → a + i < b → at (between a b l) i ≡ at l (a + i)
+  between-at i h = getD-take (b - a) (drop a l) i 0 (omega arith) ∙ getD-drop a l i 0
+
+-- One number more.
+pub between-more : (a b : ℕ) (l : List ℕ) → a ≤ b → b < length l → between a (b + 1) l ≡ between a b l ++ (at l b ∷ [])
+between-more a b l h k =
+    let n : b + 1 - a ≡ suc (b - a) = omega arith in
+    let e : a + (b - a) ≡ b = omega arith in
+    ap (λ (n : ℕ). take n (drop a l)) n
+    ∙ take-suc (drop a l) (b - a) 0 (omega (arith, length-drop a l))
+    ∙ ap (λ (x : ℕ). between a b l ++ (x ∷ [])) (getD-drop a l (b - a) 0 ∙ ap (at l) e)
+
+-- Lists that agree there have the same there.
+pub between-same : (a b : ℕ) (k l : List ℕ) → b ≤ length k → b ≤ length l → ((i : ℕ) → a ≤ i → i < b → at k i ≡ at l i) → between a b k ≡ between a b l
+between-same a b k l hk hl e =
+    ext-getD 0 (between a b k) (between a b l) (between-length a b k hk ∙ sym (between-length a b l hl))
+    (λ i h. let u : a + i < b = omega (arith, between-length a b k hk) in between-at a b k i u ∙ e (a + i) (omega arith) u ∙ sym (between-at a b l i u))

@@ -1,0 +1,68 @@
+-- No two replies satisfy the statement of a public function for one input. Rests on `pattern`.
+use mathlib.Core.List.{List}
+use mathlib.Core.Path.{_≡_, refl, sym, ap, _∙_}
+use Prim.Native.Nat.{ℕ, zero, suc}
+use native.Mathlib.Omega.{arith}
+use lib.Seq.{ext-getD}
+use Rattle.pattern.proofs.Rungs.{unless-one}
+use Rattle.register.specs.Checks.{First-fault}
+use Rattle.register.specs.Held.{Held}
+use Rattle.register.specs.Lent.{Lists, Fresh}
+use Rattle.register.specs.Listing.{between}
+use Rattle.register.specs.Look.{Looked}
+use Rattle.register.specs.Marks.{unmarked}
+use Rattle.register.specs.Reply.{number, fault}
+use Rattle.register.specs.declared.Checked.{Checked}
+use Rattle.register.specs.declared.Checked.the-variants.{Sound, Refused}
+use Rattle.register.specs.declared.Refusal.{Refusal}
+use Rattle.register.specs.declared.Refusal.the-variants.{Size, ShortList, MalformedListing, ListingsDiffer, OrderUnsound}
+use Rattle.register.specs.declared.marks.Marks.{Marks}
+
+-- A statement that gives its reply by an equation has one.
+same : {A : Type 0} {x y z : A} → x ≡ z → y ≡ z → x ≡ y
+same e f = e ∙ sym f
+
+-- ---- The reply of a number
+
+reply-of : ℕ → Checked
+reply-of zero = Sound
+reply-of (suc zero) = Refused Size
+reply-of (suc (suc zero)) = Refused ShortList
+reply-of (suc (suc (suc zero))) = Refused MalformedListing
+reply-of (suc (suc (suc (suc zero)))) = Refused ListingsDiffer
+reply-of (suc (suc (suc (suc (suc n))))) = Refused OrderUnsound
+
+reply-back : (r : Checked) → reply-of (fault r) ≡ r
+unfolding reply-of
+reply-back Sound = refl
+reply-back (Refused Size) = refl
+reply-back (Refused ShortList) = refl
+reply-back (Refused MalformedListing) = refl
+reply-back (Refused ListingsDiffer) = refl
+reply-back (Refused OrderUnsound) = refl
+
+-- ---- The public functions
+
+pub number-determined : (r : Refusal) (n n′ : ℕ) → n ≡ number r → n′ ≡ number r → n ≡ n′
+number-determined r n n′ = same
+
+pub empty-marks-determined : (k k′ : Marks) → k ≡ unmarked → k′ ≡ unmarked → k ≡ k′
+empty-marks-determined k k′ = same
+
+pub fresh-order-determined : (l l′ : List ℕ) → Fresh l → Fresh l′ → l ≡ l′
+fresh-order-determined l l′ f f′ = ext-getD 0 l l′ (same (f .long) (f′ .long)) (λ t h. same (f .own t (omega (arith, f .long))) (f′ .own t (omega (arith, f .long))))
+
+-- A register has one first fault.
+pub fault-one : (m : ℕ) (l : Lists) (n n′ : ℕ) → First-fault m l n → First-fault m l n′ → n ≡ n′
+fault-one m l = unless-one (λ _. unless-one (λ _. unless-one (λ _. unless-one (λ _. unless-one (λ _ n n′. same)))))
+
+pub check-determined : (m : ℕ) (l : Lists) (r r′ : Checked) → First-fault m l (fault r) → First-fault m l (fault r′) → r ≡ r′
+check-determined m l r r′ f f′ = sym (reply-back r) ∙ ap reply-of (fault-one m l (fault r) (fault r′) f f′) ∙ reply-back r′
+
+pub look-determined : (m c : ℕ) (starts rows p p′ : List ℕ) → Looked m c starts rows p → Looked m c starts rows p′ → p ≡ p′
+look-determined m c starts rows p p′ f f′ =
+    let e = unless-one (λ _ s s′. same) (f .from, f .to) (f′ .from, f′ .to) (f .spans) (f′ .spans) in
+    f .taken ∙ ap (λ (s : ℕ × ℕ). between (s .0) (s .1) rows) e ∙ sym (f′ .taken)
+
+pub turn-determined : (P : List (List ℕ)) (s e s₁ e₁ s₂ e₂ : List ℕ) → Held P s e s₁ e₁ → Held P s e s₂ e₂ → (s₁ ≡ s₂) × (e₁ ≡ e₂)
+turn-determined P s e s₁ e₁ s₂ e₂ f f′ = (same (f .starts-after) (f′ .starts-after), same (f .entries-after) (f′ .entries-after))

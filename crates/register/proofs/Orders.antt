@@ -1,0 +1,129 @@
+-- Places of an order's rows, entered one by one, and what the columns' greatest places say of the order.
+-- Rests on specs/Order.antt, Listings.antt and `pattern`.
+use mathlib.Core.List.{List}
+use mathlib.Core.Logic.{_≢_, ⊎-elim}
+use mathlib.Core.Path.{_≡_, sym, ap, _∙_}
+use Prim.Native.Nat.{ℕ, _+_, _≤_, _<_, max}
+use native.Mathlib.Decide.{ℕ-discrete}
+use native.Mathlib.Numerals.{add-one}
+use native.Mathlib.Omega.{arith}
+use lib.Dec.{T}
+use lib.ListN.{length, take, set, length-set}
+use lib.Seq.{getD-set-same, getD-set-other, take-suc}
+use Rattle.pattern.specs.Order.{Sound}
+use Rattle.pattern.specs.Pattern.{has, Entry}
+use Rattle.pattern.specs.Places.{at, Among, Outside, Once, place, greatest}
+use Rattle.pattern.proofs.Finding.{place-at, place-of}
+use Rattle.pattern.proofs.Greatest.{greatest-high, greatest-some, greatest-more}
+use Rattle.pattern.proofs.Once.{once-none, once-more}
+use Rattle.pattern.proofs.Search.{last-or}
+use Rattle.pattern.proofs.Tests.{has-among}
+use Rattle.pattern.proofs.Turning.{row-below}
+use Rattle.register.specs.Limits.{max-size}
+use Rattle.register.specs.Listing.{part, parts, Good}
+use Rattle.register.specs.Order.{Placed, Topped}
+use Rattle.register.proofs.Listings.{part-is, good-columns}
+
+-- ---- Entering the places
+
+-- The places of the first `t` numbers have been entered; `max-size` is no place.
+pub record Entered (m : ℕ) (f : ℕ → ℕ) (t : ℕ) (places : List ℕ) : Type 0 where
+  pub long : length places ≡ max-size
+  pub once : Once f t m
+  pub there : (s : ℕ) → s < t → at places (f s) ≡ s
+  pub back : (x : ℕ) → x < max-size → at places x ≢ max-size → Among f t x
+
+module _ {m : ℕ} (f : ℕ → ℕ) where
+  pub entered-none : {places : List ℕ} → length places ≡ max-size → ((x : ℕ) → x < max-size → at places x ≡ max-size) → Entered m f 0 places
+  entered-none long none = record { long = long; once = once-none; there = λ s h. absurd (omega arith); back = λ x h n. absurd (n (none x h)) }
+
+  module _ {t : ℕ} {places : List ℕ} (small : m ≤ max-size) (ht : t < m) (E : Entered m f t places) (x : ℕ) (ex : x ≡ f t) (h : x < m) where
+    -- The next number has a place already.
+    pub entered-twice : at places x ≢ max-size → ¬ Once f m m
+    entered-twice n o = let a = E .back x (omega arith) n in omega (arith, a .1, o .once (a .0) t (omega (arith, a .1)) ht (a .2 ∙ ex))
+
+    -- It has none.
+    pub entered-more : at places x ≡ max-size → Entered m f (t + 1) (set places x t)
+    entered-more e =
+        record {
+          long = length-set places x t ∙ E .long;
+          once = rw add-one (once-more (E .once) (omega arith) (λ s u z. outside s u (z ∙ sym ex)));
+          there = λ s b. ⊎-elim
+              (λ u. getD-set-other places x (f s) t 0 (outside s u) ∙ E .there s u)
+              (λ z. ap (at (set places x t)) (ap f z ∙ sym ex) ∙ getD-set-same places x t 0 (omega (arith, E .long)) ∙ sym z)
+              (last-or t s (omega arith));
+          back = λ y b n. back y b n (ℕ-discrete y x);
+        }
+      where
+        outside : Outside f t x
+        outside s u z = omega (arith, E .there s u, ap (at places) z)
+
+        back : (y : ℕ) → y < max-size → at (set places x t) y ≢ max-size → Dec (y ≡ x) → Among f (t + 1) y
+        back y b n (yes z) = (t, omega arith, sym (z ∙ ex))
+        back y b n (no z) = let a = E .back y b (λ w. n (getD-set-other places x y t 0 z ∙ w)) in (a .0, omega (arith, a .1), a .2)
+
+  pub entered-all : {places : List ℕ} → Entered m f m places → Placed m f places
+  entered-all {places} E =
+      record {
+        long = E .long;
+        once = E .once;
+        stand = λ x h. let p = place-of (E .once) x h in ap (at places) (sym (p .1)) ∙ E .there (place f m x) (p .0);
+      }
+
+-- ---- Greatest places
+
+module _ {m : ℕ} {cs cr : List ℕ} {row : ℕ → ℕ} {places : List ℕ} (G : Good m cs cr) (L : Placed m row places) where
+  -- A row of a column is the row of its place.
+  row-at : (x c : ℕ) → Entry (parts m cs cr) x c → (at places x < m) × (row (at places x) ≡ x)
+  row-at x c e =
+      let h = row-below (good-columns G) x c e in
+      let p = place-of (L .once) x h in
+      (omega (arith, L .stand x h, p .0), ap row (L .stand x h) ∙ p .1)
+
+  at-row : (t : ℕ) → t < m → at places (row t) ≡ t
+  at-row t h = L .stand (row t) (L .once .below t h) ∙ place-at (L .once) t h
+
+  pub topped-sound : (col : ℕ → ℕ) → ((t : ℕ) → t < m → Topped m places cs cr (col t) t) → Sound (Entry (parts m cs cr)) m row col
+  topped-sound col top =
+      record {
+        rows = L .once;
+        cols = record {
+          below = λ t h. top t h .below;
+          once = λ s t hs ht e. sym (top s hs .top) ∙ ap (λ (c : ℕ). greatest (at places) (part cs cr c)) e ∙ top t ht .top;
+        };
+        paired = λ t h.
+            let g = greatest-some (at places) (part cs cr (col t)) (top t h .some) in
+            let e : Entry (parts m cs cr) (g .0) (col t) = rw (part-is m cs cr (col t) (top t h .below)) (g .1) in
+            let z : row t ≡ g .0 = ap row (sym (g .2 ∙ top t h .top)) ∙ row-at (g .0) (col t) e .1 in
+            rw z e;
+        upper = λ s t hs ht e.
+            omega (arith, greatest-high (at places) (part cs cr (col t)) (row s) (rw (part-is m cs cr (col t) (top t ht .below)) at e), at-row s hs, top t ht .top);
+      }
+
+  pub sound-topped : (col : ℕ → ℕ) → Sound (Entry (parts m cs cr)) m row col → (t : ℕ) → t < m → Topped m places cs cr (col t) t
+  sound-topped col S t h =
+      record {
+        below = S .cols .below t h;
+        some = some;
+        top = omega (arith, low, high);
+      }
+    where
+      here : T (has (part cs cr (col t)) (row t))
+      here = rw (part-is m cs cr (col t) (S .cols .below t h)) at (S .paired t h)
+
+      some : 0 < length (part cs cr (col t))
+      some = let a = has-among (part cs cr (col t)) (row t) here in omega (arith, a .1)
+
+      high : t ≤ greatest (at places) (part cs cr (col t))
+      high = omega (arith, greatest-high (at places) (part cs cr (col t)) (row t) here, at-row t h)
+
+      low : greatest (at places) (part cs cr (col t)) ≤ t
+      low =
+          let g = greatest-some (at places) (part cs cr (col t)) some in
+          let e : Entry (parts m cs cr) (g .0) (col t) = rw (part-is m cs cr (col t) (S .cols .below t h)) (g .1) in
+          let r = row-at (g .0) (col t) e in
+          omega (arith, g .2, S .upper (at places (g .0)) t (r .0) h (rw (r .1) e))
+
+-- The greatest so far, and one row more.
+pub greatest-on : (f : ℕ → ℕ) (l : List ℕ) (k : ℕ) → k < length l → greatest f (take (k + 1) l) ≡ max (greatest f (take k l)) (f (at l k))
+greatest-on f l k h = ap (λ (n : ℕ). greatest f (take n l)) (add-one k) ∙ ap (greatest f) (take-suc l k 0 h) ∙ greatest-more f (take k l) (at l k)

@@ -1,0 +1,26 @@
+-- The build paper's checks 1 to 5, in the order of their numbers. Rests on Lent.antt and `pattern`.
+use mathlib.Core.Path.{_≡_}
+use Prim.Native.Nat.{ℕ}
+use Rattle.pattern.specs.Ladder.{Unless}
+use Rattle.register.specs.Lent.{Lists, Sized, Long, Formed, Listings-agree, Order-sound}
+
+module _ {A : Type 0} (m : ℕ) (l : Lists) (refused : ℕ → A) (rest : A → Type 0) where
+  -- Checks 3 to 5: a call is refused with the number of the first that fails, `refused` being the outcome of a refusal by its
+  -- number; where none does, the rest decides.
+  abbrev pub Kept-well : A → Type 0
+  Kept-well =
+      Unless (Formed m l) (refused 3)
+      (Unless (Listings-agree m l) (refused 4)
+      (Unless (Order-sound m l) (refused 5)
+      rest))
+
+  -- Checks 1 to 5.
+  abbrev pub Checks : A → Type 0
+  Checks =
+      Unless (Sized m) (refused 1)
+      (Unless (Long m l) (refused 2)
+      Kept-well)
+
+-- The number of a register's first fault, or 0.
+abbrev pub First-fault : ℕ → Lists → ℕ → Type 0
+First-fault m l = Checks m l (λ n. n) (λ n. n ≡ 0)

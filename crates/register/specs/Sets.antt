@@ -1,0 +1,28 @@
+-- Sets of numbers below 1,024, by their tests: nothing here says how a set is kept. Rests on Limits.antt.
+use mathlib.Core.Bool.{Bool, true, false}
+use mathlib.Core.Logic.{_≢_}
+use mathlib.Core.Path.{_≡_}
+use Prim.Native.Nat.{ℕ, _≤_, _<_}
+use Rattle.pattern.specs.Places.{tally}
+use Rattle.register.specs.Limits.{max-mark}
+
+-- The set `q` is `p` with the number `i`.
+pub record With (p q : ℕ → Bool) (i : ℕ) : Type 0 where
+  pub here : q i ≡ true
+  pub others : (k : ℕ) → k < max-mark → k ≢ i → q k ≡ p k
+
+-- `r` is the first number of the set from `from` on, or 1,024 where there is none.
+pub record First (p : ℕ → Bool) (from r : ℕ) : Type 0 where
+  pub after : from ≤ r
+  pub within : r ≤ max-mark
+  pub none : (k : ℕ) → from ≤ k → k < r → p k ≡ false
+  pub there : r < max-mark → p r ≡ true
+
+-- 1 for a number that is in the set, and 0 for one that is not.
+abbrev pub one : Bool → ℕ
+one true = 1
+one false = 0
+
+-- How many of the numbers below `n` are in the set.
+abbrev pub counted : (ℕ → Bool) → ℕ → ℕ
+counted p n = tally (λ k. one (p k)) n

@@ -1,0 +1,32 @@
+-- Walks through the columns with a cursor for each row, for the contracts of the steps of `same` and `turn`.
+-- Rests on Listing.antt.
+use mathlib.Core.List.{List}
+use mathlib.Core.Path.{_≡_}
+use Prim.Native.Nat.{ℕ, _+_, _≤_, _<_}
+use lib.ListN.{length}
+use Rattle.pattern.specs.Places.{at, tally}
+use Rattle.register.specs.Limits.{max-size}
+use Rattle.register.specs.Listing.{between}
+
+-- Each row `r` has a cursor, which has gone on from the row's base by one place for each of the columns `seen r`.
+pub record Cursors (m : ℕ) (base : ℕ → ℕ) (seen : ℕ → List ℕ) (next : List ℕ) : Type 0 where
+  pub long : length next ≡ max-size
+  pub stand : (r : ℕ) → r < m → at next r ≡ base r + length (seen r)
+
+-- And in the list `cols` it has passed these columns, and none of another row's.
+pub record Walked (m : ℕ) (base : ℕ → ℕ) (cols : List ℕ) (seen : ℕ → List ℕ) (next : List ℕ) : Type 0 where
+  pub cursors : Cursors m base seen next
+  pub in-row : (r : ℕ) → r < m → at next r ≤ base (r + 1)
+  pub passed : (r : ℕ) → r < m → between (base r) (at next r) cols ≡ seen r
+
+-- A list keeps its length, and what it holds from place `n` on.
+pub record Kept (n : ℕ) (old new : List ℕ) : Type 0 where
+  pub long : length new ≡ length old
+  pub rest : (q : ℕ) → n ≤ q → at new q ≡ at old q
+
+-- The starts of parts that have these counts have been written, and each cursor stands at its start.
+pub record Laid (m : ℕ) (counts starts next′ starts′ : List ℕ) : Type 0 where
+  pub next-long : length next′ ≡ max-size
+  pub stand : (r : ℕ) → r < m → at next′ r ≡ tally (at counts) r
+  pub laid : (r : ℕ) → r < m + 1 → at starts′ r ≡ tally (at counts) r
+  pub kept : Kept (m + 1) starts starts′

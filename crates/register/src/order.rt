@@ -1,0 +1,100 @@
+// Whether an order is sound: the places of its rows are entered in a scratch list, and one pass over the columns in their
+// order sees to the rest.
+use crate::Register;
+use crate::listing::part;
+use crate::wide::wide;
+ghost use mathlib.Core.Path.{_≡_};
+ghost use Prim.Native.Nat.{ℕ, _≤_, _<_};
+ghost use lib.ListN.{length};
+ghost use Rattle.pattern.specs.Order.{Sound};
+ghost use Rattle.pattern.specs.Pattern.{Entry};
+ghost use Rattle.pattern.specs.Places.{at, Once, greatest};
+ghost use Rattle.register.specs.Limits.{max-size};
+ghost use Rattle.register.specs.Says.{Told, Says};
+ghost use Rattle.register.specs.Listing.{parts, Good};
+ghost use Rattle.register.specs.Order.{Placed, Topped};
+
+// What stands in the scratch list for a number that has no place.
+const NOWHERE: u16 = 1000;
+
+// Enters the place of each number. False where one is m or more, or has a place already.
+fn enter(m: usize, numbers: &[u16], places: &mut [u16; Register::MAX_SIZE]) -> bool
+    requires { ⌜ (m ≤ max-size) × (m ≤ length (now numbers)) ⌝ }
+    requires { ⌜ (length (now places) ≡ max-size) × ((x : ℕ) → x < max-size → at (now places) x ≡ max-size) ⌝ }
+    ensures { λ answer. ⌜ Told answer (Placed m (at (now (numbers .entry))) (now (places .exit))) (¬ Once (at (now (numbers .entry))) m m) ⌝ }
+{
+    let mut t = 0;
+    while t < m {
+        let x = wide(numbers[t]);
+        if m <= x {
+            return false;
+        }
+        if places[x] != NOWHERE {
+            return false;
+        }
+        places[x] = t as u16;
+        t += 1;
+    }
+    true
+}
+
+// The greatest place of a row.
+pub fn top_place(places: &[u16; Register::MAX_SIZE], rows: &[u16]) -> usize
+    requires { ⌜ ((k : ℕ) → k < length (now rows) → at (now rows) k < max-size) ⌝ }
+    ensures { λ r. ⌜ r ≡ greatest (at (now (places .entry))) (now (rows .entry)) ⌝ }
+{
+    let mut top = 0;
+    let mut k = 0;
+    while k < rows.len() {
+        let p = wide(places[wide(rows[k])]);
+        if top < p {
+            top = p;
+        }
+        k += 1;
+    }
+    top
+}
+
+// Whether each column is in range and has rows, of which the last in the order stands at the column's own place. So no
+// column stands twice: a column has one such place.
+fn topped(
+    m: usize,
+    cs: &[u16],
+    cr: &[u16],
+    cols: &[u16],
+    places: &[u16; Register::MAX_SIZE],
+) -> bool
+    requires { ⌜ Good m (now cs) (now cr) × (m ≤ length (now cols)) ⌝ }
+    ensures { λ answer. ⌜ Says answer
+        ((t : ℕ) → t < m → Topped m (now (places .entry)) (now (cs .entry)) (now (cr .entry)) (at (now (cols .entry)) t) t) ⌝ }
+{
+    let mut t = 0;
+    while t < m {
+        let c = wide(cols[t]);
+        if m <= c {
+            return false;
+        }
+        let rows = part(cs, cr, c);
+        if rows.len() == 0 {
+            return false;
+        }
+        if top_place(places, rows) != t {
+            return false;
+        }
+        t += 1;
+    }
+    true
+}
+
+// Whether the order is sound for the columns.
+pub fn sound(m: usize, cs: &[u16], cr: &[u16], rows: &[u16], cols: &[u16]) -> bool
+    requires { ⌜ Good m (now cs) (now cr) × (m ≤ length (now rows)) × (m ≤ length (now cols)) ⌝ }
+    ensures { λ answer. ⌜ Says answer
+        (Sound (Entry (parts m (now (cs .entry)) (now (cr .entry)))) m (at (now (rows .entry))) (at (now (cols .entry)))) ⌝ }
+{
+    let mut places = [NOWHERE; Register::MAX_SIZE];
+    if !enter(m, rows, &mut places) {
+        return false;
+    }
+    topped(m, cs, cr, cols, &places)
+}
