@@ -5,10 +5,10 @@ use Rattle.pattern.specs.Ladder.{Unless}
 use Rattle.register.specs.Lent.{Lists, Sized, Long, Formed, Listings-agree, Order-sound}
 
 module _ {A : Type 0} (m : ℕ) (l : Lists) (refused : ℕ → A) (rest : A → Type 0) where
-  -- Checks 3 to 5: a call is refused with the number of the first that fails, `refused` being the outcome of a refusal by its
-  -- number; where none does, the rest decides.
-  abbrev pub Kept-well : A → Type 0
-  Kept-well =
+  -- Checks 3 to 5, of what the lists hold: a call is refused with the number of the first that fails, `refused` being the
+  -- outcome of a refusal by its number; where none does, the rest decides.
+  abbrev pub Contents : A → Type 0
+  Contents =
       Unless (Formed m l) (refused 3)
       (Unless (Listings-agree m l) (refused 4)
       (Unless (Order-sound m l) (refused 5)
@@ -19,7 +19,7 @@ module _ {A : Type 0} (m : ℕ) (l : Lists) (refused : ℕ → A) (rest : A → 
   Checks =
       Unless (Sized m) (refused 1)
       (Unless (Long m l) (refused 2)
-      Kept-well)
+      Contents)
 
 -- The number of a register's first fault, or 0.
 abbrev pub First-fault : ℕ → Lists → ℕ → Type 0

@@ -8,12 +8,12 @@ use crate::order::sound;
 use crate::same::same;
 use crate::wide::wide;
 ghost use mathlib.Core.Path.{_≡_};
-ghost use Rattle.register.specs.Checks.{Kept-well, First-fault};
+ghost use Rattle.register.specs.Checks.{Contents, First-fault};
 ghost use Rattle.register.specs.Lent.{lists, Sized, Long, Formed};
 ghost use Rattle.register.specs.Reply.{fault};
 ghost use Rattle.register.specs.Says.{Says};
 
-// Check 2.
+// Check 2: the lengths.
 pub fn long_enough(
     m: usize,
     cs: &[u16],
@@ -47,8 +47,8 @@ pub fn long_enough(
     true
 }
 
-// Checks 3 to 5.
-pub fn kept_well(
+// Checks 3 to 5: what the lists hold.
+pub fn contents(
     m: usize,
     cs: &[u16],
     cr: &[u16],
@@ -58,7 +58,7 @@ pub fn kept_well(
     oc: &[u16],
 ) -> Checked
     requires { ⌜ Sized m × Long m (lists (now cs) (now cr) (now rs) (now rc) (now or) (now oc)) ⌝ }
-    ensures { λ reply. ⌜ Kept-well m
+    ensures { λ reply. ⌜ Contents m
         (lists (now (cs .entry)) (now (cr .entry)) (now (rs .entry)) (now (rc .entry)) (now (or .entry)) (now (oc .entry)))
         (λ n. n) (λ n. n ≡ 0) (fault reply) ⌝ }
 {
@@ -77,6 +77,7 @@ pub fn kept_well(
     Checked::Sound
 }
 
+// Checks 1 to 5.
 pub fn check(
     m: usize,
     cs: &[u16],
@@ -99,5 +100,5 @@ pub fn check(
     if !long_enough(m, cs, cr, rs, rc, or, oc) {
         return Checked::Refused(Refusal::ShortList);
     }
-    kept_well(m, cs, cr, rs, rc, or, oc)
+    contents(m, cs, cr, rs, rc, or, oc)
 }

@@ -1,12 +1,12 @@
--- `kept_well`: each check stands behind those before it.
+-- `contents`: each check stands behind those before it.
 use mathlib.Core.Path.{refl}
 use borrow.Author.Needs.{needs}
 use Rattle.pattern.specs.Ladder.{fails, holds}
 use Rattle.register.specs.Lent.{Lists, lists, Formed, Listings-agree, Order-sound}
 use Rattle.register.specs.Listing.{Good}
 use Rattle.register.proofs.Answers.{refuted, shown}
-use Rattle.register.proofs.check.kept_well.Statement.{statement}
-use Rattle.register.proofs.check.kept_well.Tie as tie
+use Rattle.register.proofs.check.contents.Statement.{statement}
+use Rattle.register.proofs.check.contents.Tie as tie
 
 -- Both listings are well formed.
 module _ (c : tie.Else2) where
@@ -57,8 +57,8 @@ returns-4 c = let e = c .before .before in holds (both (e .before .before)) (hol
 returns-5 : tie.Need-returns-5
 returns-5 c = let e = c .before .before in holds (both (e .before .before)) (holds (agree e) (holds (order c) refl))
 
-pub kept-well-spec : {M : Type 1} → statement M
-kept-well-spec =
+pub contents-spec : {M : Type 1} → statement M
+contents-spec =
     tie.close
     (tie.spec
     (λ c κs. search needs)
