@@ -36,7 +36,7 @@ module _ (f : ℕ → ℕ) where
   tally-zero zero z = refl
   tally-zero (suc n) z = omega (arith, z n (omega arith), tally-zero n (λ i h. z i (omega arith)))
 
-  -- Past the last part nothing is added.
+  -- Beside another function's.
   module _ (g : ℕ → ℕ) where
     pub tally-same : (n : ℕ) → ((i : ℕ) → i < n → f i ≡ g i) → tally f n ≡ tally g n
     unfolding tally

@@ -1,14 +1,14 @@
 -- The build paper's specimen replacements s1 to s12, as one table. Rests on Reply.antt.
-use mathlib.Core.List.{List, [], _∷_, _++_}
-use Prim.Native.Nat.{ℕ, zero, suc}
+use mathlib.Core.List.{List, [], _∷_}
+use Prim.Native.Nat.{ℕ}
 use lib.ListN.{length}
+use Rattle.pattern.specs.Places.{each}
 use Rattle.pattern.specs.Verdict.{Replacement, Singular, Permuted, Elimination}
 use Rattle.specimens.specs.Reply.{Reply, Refused, Given, Replied}
 
 -- 0, 1 .. n - 1.
 abbrev pub upto : ℕ → List ℕ
-upto zero = []
-upto (suc n) = upto n ++ (n ∷ [])
+upto n = each (λ i. i) n
 
 -- A specimen: what is asked, and the reply.
 pub record Specimen : Type 0 where
