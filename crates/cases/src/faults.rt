@@ -44,8 +44,12 @@ fn order(label: &[u8], rows: &[u16], cols: &[u16]) {
 // Replies 0 and 2.
 pub fn short() {
     order(b"sound", &[0, 1], &[0, 1]);
-    order(b"longer lists than needed", &[0, 1, 9], &[0, 1, 9]);
-    columns(b"empty lists", &[], &[]);
+    columns(b"columns in longer lists", &[0, 1, 3, 9], &[0, 0, 1, 9]);
+    rows(b"rows in longer lists", &[0, 2, 3, 9], &[0, 1, 1, 9]);
+    order(b"order in longer lists", &[0, 1, 9], &[0, 1, 9]);
+    columns(b"empty lists for the columns", &[], &[]);
+    rows(b"empty lists for the rows", &[], &[]);
+    order(b"empty lists for the order", &[], &[]);
     columns(b"two column starts", &[0, 1], &[0, 0, 1]);
     rows(b"two row starts", &[0, 2], &[0, 1, 1]);
     order(b"one row in the order", &[0], &[0, 1]);
@@ -57,7 +61,7 @@ pub fn short() {
 // Check 2 is for both listings before check 3 for one.
 pub fn short_and_malformed() {
     check(
-        b"the same behind malformed columns",
+        b"the same, and malformed columns",
         2,
         &[1, 0, 3],
         &[0, 0, 1],

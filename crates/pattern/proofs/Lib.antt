@@ -1,6 +1,7 @@
 -- The theorems on patterns, each file one subject. Later files rest on earlier ones.
 pub mod Tests
 pub mod Search
+pub mod Climbing
 pub mod Once
 pub mod Finding
 pub mod Pairing

@@ -1,9 +1,10 @@
 -- Lists that strictly rise: one with given numbers is one list, and a test that computes. Rests on Tests.antt.
 use mathlib.Core.Bool.{Bool, true, _&&_}
 use mathlib.Core.List.{List, [], _∷_, _++_}
-use mathlib.Core.Logic.{_⊎_, inl, inr, ⊎-elim}
+use mathlib.Core.Logic.{_⊎_, inl, inr}
 use mathlib.Core.Path.{_≡_, refl, sym, ap, ap₂, _∙_}
-use Prim.Native.Nat.{ℕ, zero, suc, _<_}
+use Prim.Native.Nat.{ℕ, zero, suc, _<_, _-_, _+_}
+use native.Mathlib.Numerals.{add-one}
 use native.Mathlib.Omega.{arith}
 use lib.Dec.{T, ltb, ltb→lt, lt→ltb}
 use lib.ListN.{length, length-append, List·getD-append}
@@ -11,6 +12,7 @@ use lib.Seq.{getD-append-seam}
 use Rattle.pattern.specs.Pattern.{has}
 use Rattle.pattern.specs.Places.{at}
 use Rattle.pattern.specs.Rising.{Rising}
+use Rattle.pattern.proofs.Climbing.{climbs}
 use Rattle.pattern.proofs.Search.{last-or}
 use Rattle.pattern.proofs.Tests.{and-both, and-left, and-right, has-cases, has-here, has-there, has-among}
 
@@ -49,9 +51,8 @@ rising-one-more {n} {l} s = record { below = λ i h. low i (last-or (length l) i
 
 -- Over any distance.
 pub rising-less : {m : ℕ} {l : List ℕ} → Rising m l → (i j : ℕ) → i < j → j < length l → at l i < at l j
-rising-less s i zero h k = absurd (omega arith)
-rising-less {l = l} s i (suc j) h k =
-    ⊎-elim (λ u. omega (arith, s .rises j k, rising-less s i j u (omega arith))) (λ e. omega (arith, s .rises j k, ap (at l) e)) (last-or j i h)
+rising-less {l = l} s i j h k =
+    omega (arith, s .rises i (omega arith), climbs (at l) (length l - 1) (λ x u. omega (arith, s .rises x (omega arith), ap (at l) (add-one x))) (suc i) j h (omega arith))
 
 rising-tail : {m x : ℕ} {l : List ℕ} → Rising m (x ∷ l) → Rising m l
 rising-tail s = record { below = λ i h. s .below (suc i) (omega arith); rises = λ i h. s .rises (suc i) (omega arith) }

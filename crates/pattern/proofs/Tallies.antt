@@ -1,4 +1,4 @@
--- Sums of what a function gives, and that a pattern turned has as many entries. Rests on Turning.antt.
+-- Sums of what a function gives, and that a pattern turned has as many entries. Rests on Climbing.antt and Turning.antt.
 use mathlib.Core.List.{List, [], _∷_}
 use mathlib.Core.Logic.{_≢_, ⊎-elim}
 use mathlib.Core.Path.{_≡_, refl, sym, ap, ap₂, _∙_}
@@ -11,6 +11,7 @@ use Rattle.pattern.specs.Flat.{flat, start-of}
 use Rattle.pattern.specs.Pattern.{column}
 use Rattle.pattern.specs.Places.{at, tally, numbers}
 use Rattle.pattern.specs.Turned.{row-of, turned}
+use Rattle.pattern.proofs.Climbing.{climbs}
 use Rattle.pattern.proofs.Search.{last-or}
 use Rattle.pattern.proofs.Turning.{Columns, met, met-none, met-all, met-here, met-other, turned-row}
 
@@ -26,10 +27,7 @@ module _ (f : ℕ → ℕ) where
   tally-next n = ap (tally f) (add-one n)
 
   pub tally-more : (m n : ℕ) → m ≤ n → tally f m ≤ tally f n
-  unfolding tally
-  tally-more m zero h = let e : m ≡ 0 = omega arith in omega (arith, ap (tally f) e)
-  tally-more m (suc n) h =
-      ⊎-elim (λ u. omega (arith, tally-more m n (omega arith))) (λ e. omega (arith, ap (tally f) e)) (last-or (suc n) m (omega arith))
+  tally-more m n h = climbs (tally f) n (λ k u. omega (arith, tally-next k)) m n h (omega arith)
 
   pub tally-zero : (n : ℕ) → ((i : ℕ) → i < n → f i ≡ 0) → tally f n ≡ 0
   unfolding tally

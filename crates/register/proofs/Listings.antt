@@ -1,6 +1,5 @@
 -- A well-formed listing: its parts lie one after another within the lists, and list a pattern. Rests on Between.antt.
 use mathlib.Core.List.{List, []}
-use mathlib.Core.Logic.{⊎-elim}
 use mathlib.Core.Path.{_≡_, sym, ap, ap₂, _∙_}
 use Prim.Native.Nat.{ℕ, zero, suc, _+_, _≤_, _<_}
 use native.Mathlib.Numerals.{add-one}
@@ -9,8 +8,8 @@ use lib.ListN.{length}
 use Rattle.pattern.specs.Flat.{start-of}
 use Rattle.pattern.specs.Pattern.{column}
 use Rattle.pattern.specs.Places.{at}
+use Rattle.pattern.proofs.Climbing.{climbs}
 use Rattle.pattern.proofs.Each.{length-each, each-at}
-use Rattle.pattern.proofs.Search.{last-or}
 use Rattle.pattern.proofs.Tallies.{tally-none, tally-next}
 use Rattle.pattern.proofs.Turning.{Columns}
 use Rattle.register.specs.Limits.{max-total}
@@ -19,12 +18,7 @@ use Rattle.register.proofs.Between.{between-length}
 
 -- Starts never fall over any distance.
 pub starts-rise : {m : ℕ} {starts : List ℕ} → Starts m starts → (j k : ℕ) → j ≤ k → k ≤ m → at starts j ≤ at starts k
-starts-rise {starts = starts} S j zero h b = let e : j ≡ 0 = omega arith in omega (arith, ap (at starts) e)
-starts-rise {starts = starts} S j (suc k) h b =
-    ⊎-elim
-    (λ u. omega (arith, starts-rise S j k (omega arith) (omega arith), S .never-fall k (omega arith), ap (at starts) (add-one k)))
-    (λ e. omega (arith, ap (at starts) e))
-    (last-or (suc k) j (omega arith))
+starts-rise {m} {starts} S = climbs (at starts) m (S .never-fall)
 
 module _ {m : ℕ} {starts entries : List ℕ} (R : Room m starts entries) (S : Starts m starts) where
   -- A part lies within the entries.

@@ -1,19 +1,18 @@
 -- Walks through the columns with a cursor for each row: where they begin, one turn, and what they come to.
 -- Rests on specs/Walk.antt, Between.antt and Listings.antt.
 use mathlib.Core.List.{List, [], _∷_, _++_}
-use mathlib.Core.Logic.{_≢_, ⊎-elim}
+use mathlib.Core.Logic.{_≢_}
 use mathlib.Core.Path.{_≡_, sym, ap, ap₂, _∙_}
-use Prim.Native.Nat.{ℕ, zero, suc, _+_, _-_, _≤_, _<_}
+use Prim.Native.Nat.{ℕ, _+_, _-_, _≤_, _<_}
 use native.Mathlib.Decide.{ℕ-discrete, decLt}
 use native.Mathlib.Nat.{add-zero}
-use native.Mathlib.Numerals.{add-one}
 use native.Mathlib.Omega.{arith}
 use lib.ListN.{length, take, drop, set, length-set, length-append}
 use lib.Seq.{getD-set-same, getD-set-other, getD-append-seam, append-snoc}
 use Rattle.pattern.specs.Pattern.{column}
 use Rattle.pattern.specs.Places.{at, numbers}
 use Rattle.pattern.specs.Turned.{row-of}
-use Rattle.pattern.proofs.Search.{last-or}
+use Rattle.pattern.proofs.Climbing.{climbs}
 use Rattle.pattern.proofs.Turning.{Columns, met, met-all, met-here, met-other, Begins, met-begins, met-few}
 use Rattle.register.specs.Limits.{max-size}
 use Rattle.register.specs.Listing.{between, part, parts, Good}
@@ -99,12 +98,7 @@ module _ {m : ℕ} {P : List (List ℕ)} {j k i : ℕ} (t : Turn m P j k i) wher
     from-base r h = omega (arith, W .cursors .stand r h)
 
     bases-rise : (x y : ℕ) → x ≤ y → y ≤ m → base x ≤ base y
-    bases-rise x zero h b = let e : x ≡ 0 = omega arith in omega (arith, ap base e)
-    bases-rise x (suc y) h b =
-        ⊎-elim
-        (λ u. omega (arith, bases-rise x y (omega arith) (omega arith), from-base y (omega arith), W .in-row y (omega arith), ap base (add-one y)))
-        (λ e. omega (arith, ap base e))
-        (last-or (suc y) x (omega arith))
+    bases-rise = climbs base m (λ r h. omega (arith, from-base r h, W .in-row r h))
 
     pub cursor-fits : (r : ℕ) → r < m → at next r ≤ length cols
     cursor-fits r h = omega (arith, W .in-row r h, bases-rise (r + 1) m (omega arith) (omega arith))

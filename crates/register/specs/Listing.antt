@@ -16,16 +16,17 @@ between a b l = take (b - a) (drop a l)
 abbrev pub part : List ℕ → List ℕ → ℕ → List ℕ
 part starts entries k = between (at starts k) (at starts (k + 1)) entries
 
--- The `m` parts.
-abbrev pub parts : ℕ → List ℕ → List ℕ → List (List ℕ)
-parts m starts entries = each (part starts entries) m
-
 -- It lies within the entries.
 pub record Within (starts entries : List ℕ) (k : ℕ) : Type 0 where
   pub no-fall : at starts k ≤ at starts (k + 1)
   pub in-list : at starts (k + 1) ≤ length entries
 
--- The lists are long enough for a listing of `m` parts: there are `m + 1` starts, and an entry at each place before the last.
+-- The `m` parts.
+abbrev pub parts : ℕ → List ℕ → List ℕ → List (List ℕ)
+parts m starts entries = each (part starts entries) m
+
+-- The lists are long enough for a listing of `m` parts: there are `m + 1` starts, and an entry at each place before
+-- the last start.
 pub record Room (m : ℕ) (starts entries : List ℕ) : Type 0 where
   pub starts-long : m < length starts
   pub entries-long : at starts m ≤ length entries

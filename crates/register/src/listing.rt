@@ -20,7 +20,7 @@ pub fn part<'a>(starts: &[u16], entries: &'a [u16], k: usize) -> &'a [u16]
 
 // Whether the numbers are below m and strictly rise. Of numbers that rise, the last is the greatest.
 pub fn rising(m: usize, numbers: &[u16]) -> bool
-    ensures { λ r. ⌜ Says r (Rising m (now (numbers .entry))) ⌝ }
+    ensures { λ answer. ⌜ Says answer (Rising m (now (numbers .entry))) ⌝ }
 {
     let n = numbers.len();
     if n == 0 {
@@ -39,7 +39,7 @@ pub fn rising(m: usize, numbers: &[u16]) -> bool
 // Whether the m + 1 starts are right.
 fn starts_right(m: usize, starts: &[u16]) -> bool
     requires { ⌜ m < length (now starts) ⌝ }
-    ensures { λ r. ⌜ Says r (Starts m (now (starts .entry))) ⌝ }
+    ensures { λ answer. ⌜ Says answer (Starts m (now (starts .entry))) ⌝ }
 {
     if starts[0] != 0 {
         return false;
@@ -60,7 +60,7 @@ fn starts_right(m: usize, starts: &[u16]) -> bool
 // Whether the listing is well formed. No entry is read before the starts are known to lie within the list.
 pub fn formed(m: usize, starts: &[u16], entries: &[u16]) -> bool
     requires { ⌜ Room m (now starts) (now entries) ⌝ }
-    ensures { λ r. ⌜ Says r (Listing m (now (starts .entry)) (now (entries .entry))) ⌝ }
+    ensures { λ answer. ⌜ Says answer (Listing m (now (starts .entry)) (now (entries .entry))) ⌝ }
 {
     if !starts_right(m, starts) {
         return false;

@@ -13,6 +13,7 @@ pub struct Marks {
 impl Marks {
     pub const ROOM: usize = 1024;
 
+    // No number is marked.
     pub fn none() -> Self
         ensures { λ r. ⌜ r ≡ unmarked ⌝ }
     {
@@ -30,6 +31,7 @@ impl Marks {
         self
     }
 
+    // Whether the number i is marked.
     pub fn has(self, i: usize) -> bool
         requires { ⌜ i < max-mark ⌝ }
         ensures { λ r. ⌜ r ≡ marked self i ⌝ }

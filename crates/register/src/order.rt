@@ -1,5 +1,5 @@
-// Whether an order is sound: the places of its rows are entered in a scratch list, and one pass over the columns in their
-// order sees to the rest.
+// Whether an order is sound for a column listing (cs, cr: starts and rows): the places of its rows are entered in a scratch
+// list, and one pass over the columns in their order sees to the rest.
 use crate::Register;
 use crate::listing::part;
 use crate::wide::wide;

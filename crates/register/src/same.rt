@@ -1,5 +1,5 @@
-// Whether a column listing and a row listing list the same entries: the columns are read in order, and each of a column's
-// rows must have that column as the next that it lists.
+// Whether a column listing (cs, cr: starts and rows) and a row listing (rs, rc: starts and columns) list the same entries: the
+// columns are read in order, and each of a column's rows must have that column as the next that it lists.
 use crate::Register;
 use crate::listing::part;
 use crate::wide::wide;
