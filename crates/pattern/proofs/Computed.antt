@@ -11,7 +11,7 @@ use lib.ListN.{length}
 use Rattle.pattern.specs.Choice.{No-choice}
 use Rattle.pattern.specs.Order.{Sound, Paired}
 use Rattle.pattern.specs.Pattern.{has}
-use Rattle.pattern.specs.Places.{numbers}
+use Rattle.pattern.specs.Series.{numbers}
 use Rattle.pattern.specs.Reach.{Reach}
 use Rattle.pattern.specs.Verdict.{
   Replacement,

@@ -1,10 +1,10 @@
--- The list `f 0 .. f (n - 1)`: its length, its places, and that a list is such a list. Rests on specs/Places.antt.
+-- The list `f 0 .. f (n - 1)`: its length, its places, and that a list is such a list. Rests on specs/Series.antt.
 use mathlib.Core.List.{List, [], _∷_}
 use mathlib.Core.Path.{_≡_, refl, ap, ap₂}
 use Prim.Native.Nat.{ℕ, zero, suc, _<_}
 use native.Mathlib.Omega.{arith}
 use lib.ListN.{length, getD}
-use Rattle.pattern.specs.Places.{each}
+use Rattle.pattern.specs.Series.{each}
 
 module _ {A : Type 0} where
   pub length-each : (f : ℕ → A) (n : ℕ) → length (each f n) ≡ n

@@ -8,7 +8,7 @@ use native.Mathlib.Decide.{decLe}
 use lib.Dec.{T}
 use lib.ListN.{length}
 use Rattle.pattern.specs.Pattern.{has}
-use Rattle.pattern.specs.Places.{greatest}
+use Rattle.pattern.specs.Series.{greatest}
 use Rattle.pattern.proofs.Tests.{has-cases, has-here, has-there}
 
 module _ (f : ℕ → ℕ) where

@@ -8,7 +8,7 @@ use native.Mathlib.Omega.{arith}
 use lib.Dec.{T}
 use lib.ListN.{length, length-append}
 use Rattle.pattern.specs.Pattern.{has}
-use Rattle.pattern.specs.Places.{numbers}
+use Rattle.pattern.specs.Series.{numbers}
 use Rattle.pattern.specs.Rising.{Rising}
 use Rattle.pattern.proofs.Search.{last-or}
 use Rattle.pattern.proofs.Tests.{has-append, has-left, has-right, has-cases, has-here}

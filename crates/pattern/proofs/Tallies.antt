@@ -9,7 +9,8 @@ use native.Mathlib.Omega.{arith}
 use lib.ListN.{length, length-append}
 use Rattle.pattern.specs.Flat.{flat, start-of}
 use Rattle.pattern.specs.Pattern.{column}
-use Rattle.pattern.specs.Places.{at, tally, numbers}
+use Rattle.pattern.specs.Places.{at}
+use Rattle.pattern.specs.Series.{tally, numbers}
 use Rattle.pattern.specs.Turned.{row-of, turned}
 use Rattle.pattern.proofs.Climbing.{climbs}
 use Rattle.pattern.proofs.Search.{last-or}

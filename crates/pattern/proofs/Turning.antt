@@ -11,7 +11,8 @@ use lib.Dec.{T}
 use lib.ListN.{length, take, drop, take-append-drop, length-append}
 use lib.Seq.{take-suc, take-length, length-take-le, getD-take}
 use Rattle.pattern.specs.Pattern.{has, column, Entry}
-use Rattle.pattern.specs.Places.{at, numbers, each}
+use Rattle.pattern.specs.Places.{at}
+use Rattle.pattern.specs.Series.{numbers, each}
 use Rattle.pattern.specs.Rising.{Rising}
 use Rattle.pattern.specs.Turned.{row-of, turned, Same-entries}
 use Rattle.pattern.proofs.Each.{length-each, each-at, each-same, each-is}

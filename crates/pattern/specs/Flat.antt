@@ -1,9 +1,9 @@
--- The parts of a listing one after another, and where each starts. Rests on Pattern.antt and Places.antt.
+-- The parts of a listing one after another, and where each starts. Rests on Pattern.antt and Series.antt.
 use mathlib.Core.List.{List, [], _∷_, _++_}
 use Prim.Native.Nat.{ℕ, _+_}
 use lib.ListN.{length}
 use Rattle.pattern.specs.Pattern.{column}
-use Rattle.pattern.specs.Places.{each, tally}
+use Rattle.pattern.specs.Series.{each, tally}
 
 -- The parts one after another.
 abbrev pub flat : List (List ℕ) → List ℕ

@@ -1,5 +1,6 @@
 -- What patterns, orders, choices, reach, peels and verdicts are. Nothing is proved here; the theorems stand in proofs/.
 pub mod Places
+pub mod Series
 pub mod Rising
 pub mod Pattern
 pub mod Flat

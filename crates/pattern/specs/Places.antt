@@ -2,9 +2,9 @@
 -- A part of a list from its beginning is the same function with a smaller count. Rests on nothing.
 use mathlib.Core.Path.{_≡_}
 use mathlib.Core.Bool.{Bool, cond}
-use mathlib.Core.List.{List, [], _∷_, _++_}
+use mathlib.Core.List.{List}
 use mathlib.Core.Logic.{_≢_}
-use Prim.Native.Nat.{ℕ, zero, suc, _+_, _<_, max}
+use Prim.Native.Nat.{ℕ, zero, suc, _<_}
 use lib.Dec.{eqb}
 use lib.ListN.{getD}
 
@@ -37,23 +37,3 @@ least test (suc n) = cond (test zero) zero (suc (least (λ i. test (suc i)) n))
 -- The place where `x` stands among `f 0 .. f (n - 1)`, and `n` where it does not stand there.
 unfoldable pub place : (ℕ → ℕ) → ℕ → ℕ → ℕ
 place f n x = least (λ i. eqb (f i) x) n
-
--- `f 0 .. f (n - 1)` as a list.
-abbrev pub each : {A : Type 0} → (ℕ → A) → ℕ → List A
-each f zero = []
-each f (suc n) = f zero ∷ each (λ i. f (suc i)) n
-
--- The numbers below `n` that pass a test, in rising order.
-unfoldable pub numbers : (ℕ → Bool) → ℕ → List ℕ
-numbers test zero = []
-numbers test (suc n) = numbers test n ++ cond (test n) (n ∷ []) []
-
--- The greatest of what `f` gives for the numbers of a list, and 0 where it has none.
-unfoldable pub greatest : (ℕ → ℕ) → List ℕ → ℕ
-greatest f [] = 0
-greatest f (x ∷ l) = max (f x) (greatest f l)
-
--- `f 0 + .. + f (n - 1)`.
-unfoldable pub tally : (ℕ → ℕ) → ℕ → ℕ
-tally f zero = 0
-tally f (suc n) = tally f n + f n

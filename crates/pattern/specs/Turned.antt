@@ -1,9 +1,9 @@
--- A pattern turned: the columns that each row stands in. Rests on Pattern.antt and Places.antt.
+-- A pattern turned: the columns that each row stands in. Rests on Pattern.antt and Series.antt.
 use mathlib.Core.List.{List}
 use mathlib.Core.Logic.{_↔_}
 use Prim.Native.Nat.{ℕ}
 use Rattle.pattern.specs.Pattern.{has, column, Entry}
-use Rattle.pattern.specs.Places.{each, numbers}
+use Rattle.pattern.specs.Series.{each, numbers}
 
 -- The columns below `n` that have row `r`, in rising order.
 abbrev pub row-of : List (List ℕ) → ℕ → ℕ → List ℕ

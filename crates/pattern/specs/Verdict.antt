@@ -1,5 +1,6 @@
 -- What a replacement of one column is to be answered, over all choices and all orders: the third condition, with the order,
--- the bump and the eta rows of the build paper. Rests on all the other files here but Peel.antt and Ladder.antt.
+-- the bump and the eta rows of the build paper. Rests on all the other files here but Peel.antt, Ladder.antt,
+-- Flat.antt and Turned.antt.
 use mathlib.Core.List.{List, [], _∷_, _++_}
 use mathlib.Core.Logic.{_≢_, _↔_}
 use mathlib.Core.Path.{_≡_}
@@ -10,7 +11,8 @@ use Rattle.pattern.specs.Choice.{No-choice}
 use Rattle.pattern.specs.Dictionary.{Leading}
 use Rattle.pattern.specs.Order.{Sound-register, Triangular, Paired}
 use Rattle.pattern.specs.Pattern.{Pattern, has, Entry}
-use Rattle.pattern.specs.Places.{at, place, greatest}
+use Rattle.pattern.specs.Places.{at, place}
+use Rattle.pattern.specs.Series.{greatest}
 use Rattle.pattern.specs.Reach.{Reach}
 use Rattle.pattern.specs.Rising.{Rising}
 

@@ -13,3 +13,4 @@ pub mod Turns
 pub mod Determined
 pub mod Soundness
 pub mod StandIns
+pub mod Unmarked

@@ -12,7 +12,8 @@ use lib.ListN.{length, take, set, length-set}
 use lib.Seq.{getD-set-same, getD-set-other, take-suc}
 use Rattle.pattern.specs.Order.{Sound}
 use Rattle.pattern.specs.Pattern.{has, Entry}
-use Rattle.pattern.specs.Places.{at, Among, Outside, Once, place, greatest}
+use Rattle.pattern.specs.Places.{at, Among, Outside, Once, place}
+use Rattle.pattern.specs.Series.{greatest}
 use Rattle.pattern.proofs.Finding.{place-at, place-of}
 use Rattle.pattern.proofs.Greatest.{greatest-high, greatest-some, greatest-more}
 use Rattle.pattern.proofs.Once.{once-none, once-more}

@@ -7,7 +7,8 @@ use native.Mathlib.Omega.{arith}
 use lib.ListN.{length, replicate, getD-replicate}
 use Rattle.pattern.specs.Ladder.{fails, holds}
 use Rattle.pattern.specs.Pattern.{Entry}
-use Rattle.pattern.specs.Places.{at, Once, tally, numbers}
+use Rattle.pattern.specs.Places.{at, Once}
+use Rattle.pattern.specs.Series.{tally, numbers}
 use Rattle.pattern.specs.Rising.{Rising}
 use Rattle.pattern.specs.Turned.{turned}
 use Rattle.pattern.proofs.Tests.{has-cases}

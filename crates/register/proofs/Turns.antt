@@ -7,7 +7,8 @@ use lib.ListN.{length, set, length-set}
 use lib.Seq.{getD-set-other}
 use Rattle.pattern.specs.Flat.{flat, start-of, starts-of}
 use Rattle.pattern.specs.Pattern.{column}
-use Rattle.pattern.specs.Places.{at, tally}
+use Rattle.pattern.specs.Places.{at}
+use Rattle.pattern.specs.Series.{tally}
 use Rattle.pattern.specs.Turned.{row-of, turned}
 use Rattle.pattern.proofs.Each.{length-each, each-at}
 use Rattle.pattern.proofs.Flats.{flat-at, in-part}

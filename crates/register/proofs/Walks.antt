@@ -10,7 +10,8 @@ use native.Mathlib.Omega.{arith}
 use lib.ListN.{length, take, drop, set, length-set, length-append}
 use lib.Seq.{getD-set-same, getD-set-other, getD-append-seam, append-snoc}
 use Rattle.pattern.specs.Pattern.{column}
-use Rattle.pattern.specs.Places.{at, numbers}
+use Rattle.pattern.specs.Places.{at}
+use Rattle.pattern.specs.Series.{numbers}
 use Rattle.pattern.specs.Turned.{row-of}
 use Rattle.pattern.proofs.Climbing.{climbs}
 use Rattle.pattern.proofs.Turning.{Columns, met, met-all, met-here, met-other, Begins, met-begins, met-few}

@@ -4,7 +4,8 @@ use mathlib.Core.List.{List}
 use mathlib.Core.Path.{_≡_}
 use Prim.Native.Nat.{ℕ, _+_, _-_, _≤_, _<_}
 use lib.ListN.{length, take, drop}
-use Rattle.pattern.specs.Places.{at, each}
+use Rattle.pattern.specs.Places.{at}
+use Rattle.pattern.specs.Series.{each}
 use Rattle.pattern.specs.Rising.{Rising}
 use Rattle.register.specs.Limits.{max-size, max-total}
 

@@ -3,7 +3,8 @@ use mathlib.Core.List.{List}
 use mathlib.Core.Path.{_≡_}
 use Prim.Native.Nat.{ℕ, _<_}
 use lib.ListN.{length}
-use Rattle.pattern.specs.Places.{at, Once, place, greatest}
+use Rattle.pattern.specs.Places.{at, Once, place}
+use Rattle.pattern.specs.Series.{greatest}
 use Rattle.register.specs.Limits.{max-size}
 use Rattle.register.specs.Listing.{part}
 

@@ -3,7 +3,7 @@ use mathlib.Core.Bool.{Bool, true, false}
 use mathlib.Core.Logic.{_≢_}
 use mathlib.Core.Path.{_≡_}
 use Prim.Native.Nat.{ℕ, _≤_, _<_}
-use Rattle.pattern.specs.Places.{tally}
+use Rattle.pattern.specs.Series.{tally}
 use Rattle.register.specs.Limits.{max-mark}
 
 -- The set `q` is `p` with the number `i`.

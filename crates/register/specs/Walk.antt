@@ -4,7 +4,8 @@ use mathlib.Core.List.{List}
 use mathlib.Core.Path.{_≡_}
 use Prim.Native.Nat.{ℕ, _+_, _≤_, _<_}
 use lib.ListN.{length}
-use Rattle.pattern.specs.Places.{at, tally}
+use Rattle.pattern.specs.Places.{at}
+use Rattle.pattern.specs.Series.{tally}
 use Rattle.register.specs.Limits.{max-size}
 use Rattle.register.specs.Listing.{between}
 

@@ -9,7 +9,8 @@ use lib.Dec.{T}
 use lib.ListN.{length}
 use Rattle.pattern.specs.Order.{Sound-order, Sound-register}
 use Rattle.pattern.specs.Pattern.{Entry, Rows-below}
-use Rattle.pattern.specs.Places.{least, place, numbers, greatest}
+use Rattle.pattern.specs.Places.{least, place}
+use Rattle.pattern.specs.Series.{numbers, greatest}
 use Rattle.pattern.specs.Verdict.{Replacement, size, to-last}
 use Rattle.pattern.proofs.Computed.{reach-rows, eta-rows, unpermuted, after-peel, verdict-of}
 use Rattle.pattern.proofs.Peeled.{left, all-but, available, grow, peeled, Full, Stuck, peeled-is}

@@ -2,7 +2,7 @@
 use mathlib.Core.List.{List, [], _∷_}
 use Prim.Native.Nat.{ℕ}
 use lib.ListN.{length}
-use Rattle.pattern.specs.Places.{each}
+use Rattle.pattern.specs.Series.{each}
 use Rattle.pattern.specs.Verdict.{Replacement, Singular, Permuted, Elimination}
 use Rattle.specimens.specs.Reply.{Reply, Refused, Given, Replied}
 

@@ -4,7 +4,8 @@ use Prim.Native.Nat.{_-_, _≤_, _<_}
 use native.Mathlib.Omega.{arith}
 use lib.ListN.{length, take}
 use borrow.Author.Needs.{needs}
-use Rattle.pattern.specs.Places.{at, greatest}
+use Rattle.pattern.specs.Places.{at}
+use Rattle.pattern.specs.Series.{greatest}
 use Rattle.register.proofs.Orders.{greatest-on}
 use mathlib.Core.Logic.{⊎-elim}
 use lib.Seq.{take-all}

@@ -6,7 +6,8 @@ use lib.ListN.{length}
 use borrow.Author.Needs.{needs}
 use borrow.Author.Count.{below-none, below-more}
 use mathlib.Core.List.{List}
-use Rattle.pattern.specs.Places.{at, greatest}
+use Rattle.pattern.specs.Places.{at}
+use Rattle.pattern.specs.Series.{greatest}
 use Rattle.register.specs.Listing.{part}
 use Rattle.register.specs.Order.{Topped}
 use Rattle.register.proofs.Answers.{told-yes, told-no}
