@@ -11,6 +11,7 @@ use lib.ListN.{length}
 use Rattle.pattern.specs.Choice.{No-choice}
 use Rattle.pattern.specs.Order.{Sound, Paired}
 use Rattle.pattern.specs.Pattern.{has}
+use Rattle.pattern.specs.Peel.{Whole}
 use Rattle.pattern.specs.Series.{numbers}
 use Rattle.pattern.specs.Reach.{Reach}
 use Rattle.pattern.specs.Verdict.{
@@ -122,12 +123,16 @@ module _ (a : Replacement) (t : Taken a) where
   apart-no-choice n =
       unreached-no-choice s (spiked a t) (t .column-below) (λ x r k p h. n (some-meets (a .new-rows) (reach-rows a) r h (reach-rows-are r .1 (x, k, p))))
 
+  -- A whole greedy peel by old places is the order of PERMUTED.
+  pub whole-judged : {rows cols : List ℕ} → Whole (Spike a) (size a) (old-place a) rows cols → Judged a (Permuted rows cols)
+  whole-judged w = record { row-count = w .row-count; col-count = w .col-count; leading = greedy-leads (spike-rows a t) (old-place-once a t) (w .greedy) }
+
   full-right : (g : List ℕ × List ℕ) → Full (spiked-columns a) (size a) (old-place a) g → Judged a (after-peel a g)
   unfolding after-peel
   full-right g f =
       subst (λ (b : Bool). Judged a (cond b (Permuted (g .0) (g .1)) (unpermuted a (meets (a .new-rows) (reach-rows a)))))
-      (sym (T-true (eqb (length (g .0)) (size a)) (eq-eqb (length (g .0)) (size a) (f .0))))
-      (record { row-count = f .0; col-count = f .1; leading = greedy-leads (spike-rows a t) (old-place-once a t) (f .2) })
+      (sym (T-true (eqb (length (g .0)) (size a)) (eq-eqb (length (g .0)) (size a) (f .row-count))))
+      (whole-judged f)
 
   stuck-right : (g : List ℕ × List ℕ) → Stuck (spiked-columns a) (size a) g → Judged a (after-peel a g)
   unfolding after-peel unpermuted eta-rows

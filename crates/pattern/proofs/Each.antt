@@ -1,7 +1,8 @@
--- The list `f 0 .. f (n - 1)`: its length, its places, and that a list is such a list. Rests on specs/Series.antt.
-use mathlib.Core.List.{List, [], _∷_}
-use mathlib.Core.Path.{_≡_, refl, ap, ap₂}
-use Prim.Native.Nat.{ℕ, zero, suc, _<_}
+-- The list `f 0 .. f (n - 1)`: its length, its places, one more, and that a list is such a list. Rests on specs/Series.antt.
+use mathlib.Core.List.{List, [], _∷_, _++_}
+use mathlib.Core.Path.{_≡_, refl, ap, ap₂, _∙_}
+use Prim.Native.Nat.{ℕ, zero, suc, _+_, _<_}
+use native.Mathlib.Numerals.{add-one}
 use native.Mathlib.Omega.{arith}
 use lib.ListN.{length, getD}
 use Rattle.pattern.specs.Series.{each}
@@ -23,3 +24,11 @@ module _ {A : Type 0} where
   pub each-is : (l : List A) (d : A) → each (λ i. getD l i d) (length l) ≡ l
   each-is [] d = refl
   each-is (x ∷ l) d = ap (λ (k : List A). x ∷ k) (each-is l d)
+
+  -- The last one by itself.
+  each-last : (f : ℕ → A) (n : ℕ) → each f (suc n) ≡ each f n ++ (f n ∷ [])
+  each-last f zero = refl
+  each-last f (suc n) = ap (λ (k : List A). f zero ∷ k) (each-last (λ i. f (suc i)) n)
+
+  pub each-more : (f : ℕ → A) (n : ℕ) → each f (n + 1) ≡ each f n ++ (f n ∷ [])
+  each-more f n = ap (each f) (add-one n) ∙ each-last f n

@@ -35,3 +35,15 @@ module _ (f : ℕ → ℕ) where
   unfolding greatest
   greatest-more [] x = omega arith
   greatest-more (y ∷ l) x = omega (arith, greatest-more l x)
+
+  -- It is at most what all of them are.
+  pub greatest-low : (l : List ℕ) (b : ℕ) → ((x : ℕ) → T (has l x) → f x ≤ b) → greatest f l ≤ b
+  unfolding greatest
+  greatest-low [] b h = omega arith
+  greatest-low (y ∷ l) b h = omega (arith, h y (has-here y y l refl), greatest-low l b (λ x u. h x (has-there y x l u)))
+
+  -- Another function that gives the numbers of the list the same.
+  pub greatest-same : (g : ℕ → ℕ) (l : List ℕ) → ((x : ℕ) → T (has l x) → f x ≡ g x) → greatest f l ≡ greatest g l
+  unfolding greatest
+  greatest-same g [] e = refl
+  greatest-same g (y ∷ l) e = omega (arith, e y (has-here y y l refl), greatest-same g l (λ x u. e x (has-there y x l u)))

@@ -21,5 +21,6 @@ pub mod Each
 pub mod Turning
 pub mod Tallies
 pub mod Flats
+pub mod Clearing
 pub mod Computed
 pub mod Rungs

@@ -1,4 +1,5 @@
 -- The pairs of a sound order, and the full choice that they are. Rests on Finding.antt.
+use mathlib.Core.Logic.{_↔_}
 use mathlib.Core.Path.{_≡_, refl, sym, ap, _∙_, subst₂}
 use Prim.Native.Nat.{ℕ, _<_}
 use Rattle.pattern.specs.Choice.{Choice}
@@ -42,4 +43,14 @@ sound-same {E} {m} {row} {col} {row′} {col′} a b s =
       cols = once-same b (s .cols);
       paired = λ i h. subst₂ E (a i h) (b i h) (s .paired i h);
       upper = λ i j hi hj e. s .upper i j hi hj (subst₂ E (sym (a i hi)) (sym (b j hj)) e);
+    }
+
+-- And an order that is sound for a pattern is so for one with the same entries.
+pub sound-as : {E E′ : Pattern} {m : ℕ} {row col : ℕ → ℕ} → ((r c : ℕ) → E r c ↔ E′ r c) → Sound E m row col → Sound E′ m row col
+sound-as {row = row} {col = col} same s =
+    record {
+      rows = s .rows;
+      cols = s .cols;
+      paired = λ t h. same (row t) (col t) .0 (s .paired t h);
+      upper = λ i j hi hj e. s .upper i j hi hj (same (row i) (col j) .1 e);
     }

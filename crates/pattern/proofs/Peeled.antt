@@ -1,5 +1,5 @@
 -- The peel, computed: from nothing, at each place the first column in a given order of priority that is available. Where it
--- comes to full length it is greedy; where it stops there is no sound order. Rests on Growing.antt and Peeling.antt.
+-- comes to full length it is greedy; where it stops there is no sound order. Rests on Growing.antt.
 use mathlib.Core.Bool.{Bool, true, false, cond, not, _&&_, _||_}
 use mathlib.Core.List.{List, [], _∷_, _++_}
 use mathlib.Core.Logic.{_⊎_, inl, inr}
@@ -12,13 +12,12 @@ use lib.ListN.{length, length-append, List·getD-append}
 use lib.Seq.{getD-at}
 use Rattle.pattern.specs.Order.{Triangular}
 use Rattle.pattern.specs.Pattern.{has, column, Entry, Rows-below}
-use Rattle.pattern.specs.Peel.{Peel, Available, Greedy}
+use Rattle.pattern.specs.Peel.{Available, Whole}
 use Rattle.pattern.specs.Places.{at, Outside, Once, Same, least, place}
 use Rattle.pattern.proofs.Tests.{T-dec, T-true, T-false, eq-eqb, and-both, and-left, and-right, or-cases, or-left, or-right, has-cases, has-here, has-there, has-among, among-has}
 use Rattle.pattern.proofs.Search.{None, Sought, least-is, last-or}
 use Rattle.pattern.proofs.Finding.{place-at, place-of}
-use Rattle.pattern.proofs.Peeling.{never-stuck}
-use Rattle.pattern.proofs.Growing.{peel-same, available-same, peel-none, peel-grows}
+use Rattle.pattern.proofs.Growing.{Grown, grown-none, grown-more, grown-full, grown-stuck}
 
 -- ---- The test for an available column
 
@@ -131,23 +130,12 @@ grow P m first (suc k) ps qs =
 unfoldable pub peeled : List (List ℕ) → ℕ → (ℕ → ℕ) → List ℕ × List ℕ
 peeled P m first = grow P m first m [] []
 
--- What holds of the rows and the columns taken so far.
-record Grown (P : List (List ℕ)) (m : ℕ) (key : ℕ → ℕ) (n : ℕ) (ps qs : List ℕ) : Type 0 where
-  rows : length ps ≡ n
-  cols : length qs ≡ n
-  peel : Peel (Entry P) m n (at ps) (at qs)
-  least : (i : ℕ) → i < n → (y r : ℕ) → Available (Entry P) m i (at ps) (at qs) y r → key (at qs i) ≤ key y
-
 -- What the whole peel comes to: a full greedy peel; or there is no sound order at all.
 abbrev pub Full : List (List ℕ) → ℕ → (ℕ → ℕ) → List ℕ × List ℕ → Type 0
-Full P m key g = (length (g .0) ≡ m) × (length (g .1) ≡ m) × Greedy (Entry P) m key (at (g .0)) (at (g .1))
+Full P m key g = Whole (Entry P) m key (g .0) (g .1)
 
 abbrev pub Stuck : List (List ℕ) → ℕ → List ℕ × List ℕ → Type 0
 Stuck P m g = (length (g .0) < m) × ¬ Triangular (Entry P) m
-
--- One more at the end of a list.
-snoc-old : (l : List ℕ) (x n : ℕ) → length l ≡ n → Same n (at l) (at (l ++ (x ∷ [])))
-snoc-old l x n e i h = sym (List·getD-append l (x ∷ []) 0 i (omega arith))
 
 module _ (P : List (List ℕ)) (m : ℕ) (b : Rows-below (Entry P) m) (first : ℕ → ℕ) (o : Once first m m) where
   abbrev key : ℕ → ℕ
@@ -159,66 +147,20 @@ module _ (P : List (List ℕ)) (m : ℕ) (b : Rows-below (Entry P) m) (first : �
   test-at-key n ps qs lp lq y r v =
       subst (λ (z : ℕ). T (available P ps qs z)) (sym (place-of o y (v .col-below) .1)) (available-test P m b n ps qs lp lq y r v)
 
-  grown-more : (n : ℕ) (ps qs : List ℕ) → Grown P m key n ps qs → (t : ℕ) → t < m → T (available P ps qs (first t))
-      → None (λ i. T (available P ps qs (first i))) t
-      → Grown P m key (suc n) (ps ++ (left ps (column P (first t)) ∷ [])) (qs ++ (first t ∷ []))
-  grown-more n ps qs g t l a none =
-      record {
-        rows = omega (arith, length-append ps (x ∷ []), g .rows);
-        cols = omega (arith, length-append qs (first t ∷ []), g .cols);
-        peel = peel-grows (peel-same old-rows old-cols (g .peel)) (subst₂ (Available (Entry P) m n (at ps′) (at qs′)) (sym new-col) (sym new-row) now);
-        least = λ i h y r v. minimal i y r v (last-or n i h);
-      }
+  -- The first available column in the order of priority has no greater key than another.
+  first-lowest : (n : ℕ) (ps qs : List ℕ) → Grown (Entry P) m key n ps qs → (t : ℕ) → t < m → None (λ i. T (available P ps qs (first i))) t
+      → (y r : ℕ) → Available (Entry P) m n (at ps) (at qs) y r → key (first t) ≤ key y
+  first-lowest n ps qs g t l none y r v = go (decLt (key y) t)
     where
-      x : ℕ
-      x = left ps (column P (first t))
+      go : Dec (key y < t) → key (first t) ≤ key y
+      go (yes u) = absurd (none (key y) u (test-at-key n ps qs (g .rows) (g .cols) y r v))
+      go (no u) = omega (arith, place-at o t l)
 
-      ps′ : List ℕ
-      ps′ = ps ++ (x ∷ [])
-
-      qs′ : List ℕ
-      qs′ = qs ++ (first t ∷ [])
-
-      old-rows : Same n (at ps) (at ps′)
-      old-rows = snoc-old ps x n (g .rows)
-
-      old-cols : Same n (at qs) (at qs′)
-      old-cols = snoc-old qs (first t) n (g .cols)
-
-      new-row : at ps′ n ≡ x
-      new-row = getD-at ps x [] 0 n (g .rows)
-
-      new-col : at qs′ n ≡ first t
-      new-col = getD-at qs (first t) [] 0 n (g .cols)
-
-      now : Available (Entry P) m n (at ps′) (at qs′) (first t) x
-      now = available-same old-rows old-cols (test-available P m b n ps qs (g .rows) (g .cols) (first t) (o .below t l) a)
-
-      -- at a place up to the last, what is available beside the longer lists is so beside the shorter
-      shorter : (i : ℕ) → i ≤ n → (y r : ℕ) → Available (Entry P) m i (at ps′) (at qs′) y r → Available (Entry P) m i (at ps) (at qs) y r
-      shorter i h y r v = available-same (λ j z. sym (old-rows j (omega arith))) (λ j z. sym (old-cols j (omega arith))) v
-
-      -- what is available now has no smaller key: the search would have found it
-      lowest : (y r : ℕ) → Available (Entry P) m n (at ps) (at qs) y r → Dec (key y < t) → t ≤ key y
-      lowest y r v (yes u) = absurd (none (key y) u (test-at-key n ps qs (g .rows) (g .cols) y r v))
-      lowest y r v (no u) = omega arith
-
-      minimal : (i y r : ℕ) → Available (Entry P) m i (at ps′) (at qs′) y r → (i < n) ⊎ (i ≡ n) → key (at qs′ i) ≤ key y
-      minimal i y r v (inl h) = subst (λ (z : ℕ). key z ≤ key y) (old-cols i h) (g .least i h y r (shorter i (omega arith) y r v))
-      minimal i y r v (inr e) =
-          omega (
-            arith,
-            ap (λ (j : ℕ). key (at qs′ j)) e,
-            ap key new-col,
-            place-at o t l,
-            lowest y r (shorter n (omega arith) y r (subst (λ (j : ℕ). Available (Entry P) m j (at ps′) (at qs′) y r) e v)) (decLt (key y) t),
-          )
-
-  grow-is : (k n : ℕ) (ps qs : List ℕ) → n + k ≡ m → Grown P m key n ps qs
+  grow-is : (k n : ℕ) (ps qs : List ℕ) → n + k ≡ m → Grown (Entry P) m key n ps qs
       → Full P m key (grow P m first k ps qs) ⊎ Stuck P m (grow P m first k ps qs)
   unfolding grow
   grow-is zero n ps qs e g =
-      inl (g .rows ∙ full, g .cols ∙ full, record { peel = subst (λ (j : ℕ). Peel (Entry P) m j (at ps) (at qs)) full (g .peel); least = λ i h. g .least i (omega arith) })
+      inl (grown-full (subst (λ (j : ℕ). Grown (Entry P) m key j ps qs) full g))
     where
       full : n ≡ m
       full = omega arith
@@ -235,14 +177,12 @@ module _ (P : List (List ℕ)) (m : ℕ) (b : Rows-below (Entry P) m) (first : �
       Ends x = Full P m key x ⊎ Stuck P m x
 
       stuck : None (λ i. T (available P ps qs (first i))) m → ¬ Triangular (Entry P) m
-      stuck none u =
-          let a = never-stuck b (u .2) (g .peel) (omega arith) in
-          none (key (a .0)) (place-of o (a .0) (a .2 .col-below) .0) (test-at-key n ps qs (g .rows) (g .cols) (a .0) (a .1) (a .2))
+      stuck none = grown-stuck b g (omega arith) (λ y r v. none (key y) (place-of o y (v .col-below) .0) (test-at-key n ps qs (g .rows) (g .cols) y r v))
 
       go : Sought (λ i. available P ps qs (first i)) m t
-          → (Grown P m key (suc n) (ps ++ (left ps (column P (first t)) ∷ [])) (qs ++ (first t ∷ [])) → Ends further)
+          → (Grown (Entry P) m key (suc n) (ps ++ (left ps (column P (first t)) ∷ [])) (qs ++ (first t ∷ [])) → Ends further)
           → Ends (cond (ltb t m) further (ps, qs))
-      go (inl s) f = subst (λ (x : Bool). Ends (cond x further (ps, qs))) (sym (T-true (ltb t m) (lt→ltb t m (s .0)))) (f (grown-more n ps qs g t (s .0) (s .1) (s .2)))
+      go (inl s) f = subst (λ (x : Bool). Ends (cond x further (ps, qs))) (sym (T-true (ltb t m) (lt→ltb t m (s .0)))) (f (grown-more g (test-available P m b n ps qs (g .rows) (g .cols) (first t) (o .below t (s .0)) (s .1)) (first-lowest n ps qs g t (s .0) (s .2))))
       go (inr s) f = subst (λ (x : Bool). Ends (cond x further (ps, qs))) (sym (T-false (ltb t m) (λ u. beyond (ltb→lt t m u)))) (inr (omega (arith, g .rows), stuck (s .1)))
         where
           beyond : t < m → ⊥
@@ -250,7 +190,4 @@ module _ (P : List (List ℕ)) (m : ℕ) (b : Rows-below (Entry P) m) (first : �
 
   pub peeled-is : Full P m (place first m) (peeled P m first) ⊎ Stuck P m (peeled P m first)
   unfolding peeled
-  peeled-is = grow-is m 0 [] [] (omega arith) (record { rows = refl; cols = refl; peel = peel-none; least = λ i h. absurd (none i h) })
-    where
-      none : (i : ℕ) → i < 0 → ⊥
-      none i h = omega arith
+  peeled-is = grow-is m 0 [] [] (omega arith) grown-none

@@ -8,12 +8,19 @@ use native.Mathlib.Decide.{ℕ-discrete}
 use native.Mathlib.Omega.{arith}
 use lib.Dec.{T, eqb, eqb→eq}
 use Rattle.pattern.specs.Order.{Sound, Paired}
-use Rattle.pattern.specs.Pattern.{has, column, Entry}
-use Rattle.pattern.specs.Places.{Once, place}
+use Rattle.pattern.specs.Pattern.{Pattern, has, column, Entry}
+use Rattle.pattern.specs.Places.{Once, Same, place}
 use Rattle.pattern.specs.Reach.{Reach, itself, onward}
 use Rattle.pattern.proofs.Tests.{eq-eqb, or-cases, or-left, or-right, has-cases, has-here, has-there, meets, meets-some, some-meets}
 use Rattle.pattern.proofs.Search.{strong, last-or}
 use Rattle.pattern.proofs.Pairing.{col-place}
+
+-- A pattern that has the entries of another reaches what that does; likewise orders read from functions with the same numbers.
+pub reach-same : {E E′ : Pattern} {m m′ : ℕ} {row col row′ col′ : ℕ → ℕ} {c x : ℕ} → ((r y : ℕ) → E r y → E′ r y) → m ≡ m′ → Same m row row′ → Same m col col′
+    → Reach E m row col c x → Reach E′ m′ row′ col′ c x
+reach-same f e p q (itself z) = itself z
+reach-same {x = x} f e p q (onward w r k a h b) =
+    onward {x = x} w r (reach-same f e p q k) (a .0, omega (arith, a .1), sym (p (a .0) (a .1)) ∙ a .2, sym (q (a .0) (a .1)) ∙ a .3) (omega arith) (f r x b)
 
 -- The column of place `t` is marked, where `S` are the rows paired with the columns marked before: it is `c`, or one of those
 -- rows is present in it.

@@ -1,7 +1,7 @@
 -- Lists that strictly rise: one with given numbers is one list, and a test that computes. Rests on Tests.antt.
 use mathlib.Core.Bool.{Bool, true, _&&_}
 use mathlib.Core.List.{List, [], _∷_, _++_}
-use mathlib.Core.Logic.{_⊎_, inl, inr}
+use mathlib.Core.Logic.{_⊎_, inl, inr, ⊎-elim}
 use mathlib.Core.Path.{_≡_, refl, sym, ap, ap₂, _∙_}
 use Prim.Native.Nat.{ℕ, zero, suc, _<_, _-_, _+_}
 use native.Mathlib.Numerals.{add-one}
@@ -14,7 +14,7 @@ use Rattle.pattern.specs.Places.{at}
 use Rattle.pattern.specs.Rising.{Rising}
 use Rattle.pattern.proofs.Climbing.{climbs}
 use Rattle.pattern.proofs.Search.{last-or}
-use Rattle.pattern.proofs.Tests.{and-both, and-left, and-right, has-cases, has-here, has-there, has-among}
+use Rattle.pattern.proofs.Tests.{and-both, and-left, and-right, has-cases, has-here, has-there, has-among, among-has}
 
 pub rising-below : {m : ℕ} {l : List ℕ} → Rising m l → (r : ℕ) → T (has l r) → r < m
 rising-below {l = l} s r h = let a = has-among l r h in omega (arith, s .below (a .0) (a .1), a .2)
@@ -54,17 +54,29 @@ pub rising-less : {m : ℕ} {l : List ℕ} → Rising m l → (i j : ℕ) → i 
 rising-less {l = l} s i j h k =
     omega (arith, s .rises i (omega arith), climbs (at l) (length l - 1) (λ x u. omega (arith, s .rises x (omega arith), ap (at l) (add-one x))) (suc i) j h (omega arith))
 
-rising-tail : {m x : ℕ} {l : List ℕ} → Rising m (x ∷ l) → Rising m l
+pub rising-tail : {m x : ℕ} {l : List ℕ} → Rising m (x ∷ l) → Rising m l
 rising-tail s = record { below = λ i h. s .below (suc i) (omega arith); rises = λ i h. s .rises (suc i) (omega arith) }
 
 -- What stands behind the first number is greater.
-rising-after : {m x : ℕ} {l : List ℕ} → Rising m (x ∷ l) → (r : ℕ) → T (has l r) → x < r
+pub rising-after : {m x : ℕ} {l : List ℕ} → Rising m (x ∷ l) → (r : ℕ) → T (has l r) → x < r
 rising-after {l = []} s r h = absurd h
 rising-after {x = x} {l = y ∷ l} s r h = go (has-cases y r l h) (λ u. rising-after (rising-tail s) r u)
   where
     go : (y ≡ r) ⊎ T (has l r) → (T (has l r) → y < r) → x < r
     go (inl e) f = omega (arith, s .rises 0 (omega arith))
     go (inr u) f = omega (arith, s .rises 0 (omega arith), f u)
+
+-- And a lesser number may stand in front.
+pub rising-front : {m x : ℕ} {l : List ℕ} → x < m → ((r : ℕ) → T (has l r) → x < r) → Rising m l → Rising m (x ∷ l)
+rising-front {m} {x} {l} h less s = record { below = low; rises = up }
+  where
+    low : (i : ℕ) → i < suc (length l) → at (x ∷ l) i < m
+    low zero b = h
+    low (suc i) b = s .below i (omega arith)
+
+    up : (i : ℕ) → suc i < suc (length l) → at (x ∷ l) i < at l i
+    up zero b = less (at l 0) (among-has l 0 (omega arith))
+    up (suc i) b = s .rises i (omega arith)
 
 -- Lists that rise and have the same numbers are equal.
 pub rising-same : {m : ℕ} (k l : List ℕ) → Rising m k → Rising m l → ((r : ℕ) → T (has k r) → T (has l r)) → ((r : ℕ) → T (has l r) → T (has k r))
@@ -103,22 +115,17 @@ rising m (x ∷ l) = ltb x m && (under x l && rising m l)
 pub test-rising : (m : ℕ) (l : List ℕ) → T (rising m l) → Rising m l
 unfolding rising under
 test-rising m [] t = record { below = λ i h. absurd (omega arith); rises = λ i h. absurd (omega arith) }
-test-rising m (x ∷ l) t = go (test-rising m l (and-right (under x l) (rising m l) (and-right (ltb x m) (under x l && rising m l) t)))
+test-rising m (x ∷ l) t = go l (and-left (under x l) (rising m l) rest) (test-rising m l (and-right (under x l) (rising m l) rest))
   where
-    go : Rising m l → Rising m (x ∷ l)
-    go s = record { below = low; rises = up }
-      where
-        low : (i : ℕ) → i < suc (length l) → at (x ∷ l) i < m
-        low zero h = ltb→lt x m (and-left (ltb x m) (under x l && rising m l) t)
-        low (suc i) h = s .below i (omega arith)
+    rest : T (under x l && rising m l)
+    rest = and-right (ltb x m) (under x l && rising m l) t
 
-        first : (k : List ℕ) → T (under x k) → suc zero < suc (length k) → x < at k 0
-        first [] u h = absurd (omega arith)
-        first (y ∷ k) u h = ltb→lt x y u
+    low : x < m
+    low = ltb→lt x m (and-left (ltb x m) (under x l && rising m l) t)
 
-        up : (i : ℕ) → suc i < suc (length l) → at (x ∷ l) i < at l i
-        up zero h = first l (and-left (under x l) (rising m l) (and-right (ltb x m) (under x l && rising m l) t)) h
-        up (suc i) h = s .rises i (omega arith)
+    go : (l : List ℕ) → T (under x l) → Rising m l → Rising m (x ∷ l)
+    go [] u s = rising-front low (λ r h. absurd h) s
+    go (y ∷ l) u s = rising-front low (λ r h. ⊎-elim (λ e. omega (arith, ltb→lt x y u)) (λ v. omega (arith, ltb→lt x y u, rising-after s r v)) (has-cases y r l h)) s
 
 pub rising-test : (m : ℕ) (l : List ℕ) → Rising m l → T (rising m l)
 unfolding rising under

@@ -9,3 +9,9 @@ unless-one u o o′ (fails n e) (fails n′ e′) = e ∙ sym e′
 unless-one u o o′ (fails n e) (holds p′ r′) = absurd (n p′)
 unless-one u o o′ (holds p r) (fails n′ e′) = absurd (n′ p)
 unless-one u o o′ (holds p r) (holds p′ r′) = u p o o′ r r′
+
+-- From one ladder to another over the same checks: a refusal goes to a refusal, and what is above to what is above.
+pub unless-map : {A B P : Type 0} {x : A} {y : B} {rest : A → Type 0} {rest′ : B → Type 0} {o : A} {o′ : B} → (o ≡ x → o′ ≡ y) → (rest o → rest′ o′)
+    → Unless P x rest o → Unless P y rest′ o′
+unless-map f g (fails n e) = fails n (f e)
+unless-map f g (holds p r) = holds p (g r)

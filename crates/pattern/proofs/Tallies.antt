@@ -42,15 +42,25 @@ module _ (f : ℕ → ℕ) where
     tally-same zero e = refl
     tally-same (suc n) e = ap₂ _+_ (tally-same n (λ i h. e i (omega arith))) (e n (omega arith))
 
-    -- One of the numbers is one more.
-    pub tally-one : (n i : ℕ) → i < n → g i ≡ f i + 1 → ((x : ℕ) → x ≢ i → g x ≡ f x) → tally g n ≡ tally f n + 1
+    -- Where no number is greater, the sum is not.
+    pub tally-less : (n : ℕ) → ((i : ℕ) → i < n → f i ≤ g i) → tally f n ≤ tally g n
     unfolding tally
-    tally-one zero i h e o = absurd (omega arith)
-    tally-one (suc n) i h e o =
+    tally-less zero e = omega arith
+    tally-less (suc n) e = omega (arith, tally-less n (λ i h. e i (omega arith)), e n (omega arith))
+
+    -- One of the numbers is another.
+    pub tally-changed : (n i : ℕ) → i < n → ((x : ℕ) → x ≢ i → g x ≡ f x) → tally g n + f i ≡ tally f n + g i
+    unfolding tally
+    tally-changed zero i h o = absurd (omega arith)
+    tally-changed (suc n) i h o =
         ⊎-elim
-        (λ u. omega (arith, tally-one n i u e o, o n (λ z. omega arith)))
+        (λ u. omega (arith, tally-changed n i u o, o n (λ z. omega arith)))
         (λ z. omega (arith, ap f z, ap g z, tally-same n (λ x u. sym (o x (λ w. omega arith)))))
         (last-or n i h)
+
+    -- It is one more.
+    pub tally-one : (n i : ℕ) → i < n → g i ≡ f i + 1 → ((x : ℕ) → x ≢ i → g x ≡ f x) → tally g n ≡ tally f n + 1
+    tally-one n i h e o = omega (arith, tally-changed n i h o)
 
 -- The first number by itself.
 pub tally-first : (f : ℕ → ℕ) (n : ℕ) → tally f (suc n) ≡ f 0 + tally (λ i. f (suc i)) n
@@ -78,7 +88,8 @@ module _ {m : ℕ} {P : List (List ℕ)} (C : Columns m P) where
       on : (r : ℕ) → met P r j (suc k) ≡ met P r j (k + 1)
       on r = ap (met P r j) (sym (add-one k))
 
-  row-total : (j : ℕ) → j ≤ m → tally (λ r. length (row-of P r j)) m ≡ start-of P j
+  -- The entries of the columns before column `j`, counted by rows.
+  pub row-total : (j : ℕ) → j ≤ m → tally (λ r. length (row-of P r j)) m ≡ start-of P j
   unfolding tally numbers
   row-total zero h = tally-zero (λ r. 0) m (λ i u. refl)
   row-total (suc j) h =

@@ -1,9 +1,9 @@
 -- Tests that compute, and what each says: of two Booleans, of a number in a list, of two lists with a number in common.
 -- Rests on specs/Pattern.antt.
-use mathlib.Core.Bool.{Bool, true, false, _&&_, _||_}
+use mathlib.Core.Bool.{Bool, true, false, cond, _&&_, _||_}
 use mathlib.Core.List.{List, [], _∷_, _++_}
-use mathlib.Core.Logic.{_⊎_, inl, inr, ⊎-elim}
-use mathlib.Core.Path.{_≡_, refl, sym, subst}
+use mathlib.Core.Logic.{_≢_, _⊎_, inl, inr, ⊎-elim}
+use mathlib.Core.Path.{_≡_, refl, sym, ap, subst}
 use Prim.Native.Nat.{ℕ, zero, suc, _<_}
 use native.Mathlib.Omega.{arith}
 use lib.Dec.{T, eqb, eqb→eq, eqb-refl}
@@ -16,6 +16,9 @@ use Rattle.pattern.specs.Places.{at, Among}
 pub T-dec : (b : Bool) → Dec (T b)
 T-dec true = yes tt
 T-dec false = no (λ t. t)
+
+pub true-T : {b : Bool} → b ≡ true → T b
+true-T e = subst T (sym e) tt
 
 pub T-true : (b : Bool) → T b → b ≡ true
 T-true true t = refl
@@ -51,6 +54,14 @@ and-right false b t = absurd t
 
 pub eq-eqb : (a b : ℕ) → a ≡ b → T (eqb a b)
 eq-eqb a b e = subst (λ (y : ℕ). T (eqb a y)) e (eqb-refl a)
+
+-- A choice by whether two numbers are equal.
+module _ {A : Type 0} (x y : ℕ) (a b : A) where
+  pub choose-same : x ≡ y → cond (eqb x y) a b ≡ a
+  choose-same e = ap (λ (t : Bool). cond t a b) (T-true (eqb x y) (eq-eqb x y e))
+
+  pub choose-other : x ≢ y → cond (eqb x y) a b ≡ b
+  choose-other n = ap (λ (t : Bool). cond t a b) (T-false (eqb x y) (λ t. n (eqb→eq x y t)))
 
 -- ---- A number in a list
 

@@ -22,7 +22,7 @@ from : ℕ → ℕ → ℕ → ℕ
 from t m i = ite (decLt (suc i) m) (i + min 1 (suc i - t)) t
 
 -- The last place comes from `t`; of the others, those from `t` on come from the place behind.
-abbrev From : ℕ → ℕ → ℕ → ℕ → Type 0
+abbrev pub From : ℕ → ℕ → ℕ → ℕ → Type 0
 From t m i j = ((suc i < m) × (j ≡ i + min 1 (suc i - t))) ⊎ (¬ (suc i < m) × (j ≡ t))
 
 module _ (t m : ℕ) where
@@ -114,7 +114,7 @@ module _ (l : List ℕ) (t m : ℕ) (e : length l ≡ m) (h : t < m) where
   others : length (take t l ++ drop (suc t) l) ≡ m - 1
   others = omega (arith, length-append (take t l) (drop (suc t) l), front, length-drop (suc t) l)
 
-  to-last-length : length (to-last t l) ≡ m
+  pub to-last-length : length (to-last t l) ≡ m
   unfolding to-last
   to-last-length = omega (arith, length-append (take t l ++ drop (suc t) l) (at l t ∷ []), others)
 
@@ -136,6 +136,10 @@ module _ (l : List ℕ) (t m : ℕ) (e : length l ≡ m) (h : t < m) where
           ∙ getD-append-add (take t l) (drop (suc t) l) (i - t) 0
           ∙ getD-drop (suc t) l (i - t) 0
           ∙ ap (at l) (omega arith)
+
+-- Each place and where what stands there comes from.
+pub to-last-from : (l : List ℕ) (t m : ℕ) → length l ≡ m → t < m → (i : ℕ) → i < m → (j : ℕ) × From t m i j × (at (to-last t l) i ≡ at l j)
+to-last-from l t m e h i k = (from t m i, from-is t m i, to-last-at l t m e h i k)
 
 pub to-last-sound : {E E′ E″ : Pattern} {m : ℕ} {rows cols : List ℕ} {New : ℕ → Type 0} (t : ℕ) → t < m → Sound-order E m rows cols
     → Spiked E E′ (at cols t) New

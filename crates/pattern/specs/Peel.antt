@@ -1,8 +1,10 @@
 -- Peels: what may become a sound order, taken a place at a time from the first. Rests on Pattern.antt and Places.antt.
+use mathlib.Core.List.{List}
 use mathlib.Core.Path.{_≡_}
 use Prim.Native.Nat.{ℕ, suc, _≤_, _<_}
+use lib.ListN.{length}
 use Rattle.pattern.specs.Pattern.{Pattern}
-use Rattle.pattern.specs.Places.{Among, Outside, Once}
+use Rattle.pattern.specs.Places.{at, Among, Outside, Once}
 
 -- A peel of length `n`: the rows and the columns of the first `n` places. Each pair is an entry, and each row of column
 -- `col i` is among the rows of the places up to `i`.
@@ -25,3 +27,9 @@ pub record Available (E : Pattern) (m n : ℕ) (row col : ℕ → ℕ) (y r : �
 pub record Greedy (E : Pattern) (m : ℕ) (key row col : ℕ → ℕ) : Type 0 where
   pub peel : Peel E m m row col
   pub least : (i : ℕ) → i < m → (y r : ℕ) → Available E m i row col y r → key (col i) ≤ key y
+
+-- The same of two lists of `m` numbers.
+pub record Whole (E : Pattern) (m : ℕ) (key : ℕ → ℕ) (rows cols : List ℕ) : Type 0 where
+  pub row-count : length rows ≡ m
+  pub col-count : length cols ≡ m
+  pub greedy : Greedy E m key (at rows) (at cols)

@@ -1,18 +1,19 @@
 -- What a replacement of one column is to be answered, over all choices and all orders: the third condition, with the order,
 -- the bump and the eta rows of the build paper. Rests on all the other files here but Peel.antt, Ladder.antt,
 -- Flat.antt and Turned.antt.
+use mathlib.Core.Bool.{cond}
 use mathlib.Core.List.{List, [], _∷_, _++_}
 use mathlib.Core.Logic.{_≢_, _↔_}
 use mathlib.Core.Path.{_≡_}
 use Prim.Native.Nat.{ℕ, suc, _+_, _-_, _<_}
-use lib.Dec.{T}
+use lib.Dec.{T, eqb}
 use lib.ListN.{length, set, take, drop}
 use Rattle.pattern.specs.Choice.{No-choice}
 use Rattle.pattern.specs.Dictionary.{Leading}
 use Rattle.pattern.specs.Order.{Sound-register, Triangular, Paired}
-use Rattle.pattern.specs.Pattern.{Pattern, has, Entry}
+use Rattle.pattern.specs.Pattern.{Pattern, has, column, Entry}
 use Rattle.pattern.specs.Places.{at, place}
-use Rattle.pattern.specs.Series.{greatest}
+use Rattle.pattern.specs.Series.{each, numbers, greatest}
 use Rattle.pattern.specs.Reach.{Reach}
 use Rattle.pattern.specs.Rising.{Rising}
 
@@ -56,6 +57,11 @@ module _ (a : Replacement) where
 
   abbrev pub Spike : Pattern
   Spike = Entry spiked-columns
+
+  -- The spiked pattern with row r cleared and then given the single entry (r, c): row s stands in column y where it is r and y
+  -- is c, or where it is another row and stood there.
+  abbrev pub cleared-columns : List (List ℕ)
+  cleared-columns = each (λ y. numbers (λ s. cond (eqb s c-row) (eqb y (a .replaced)) (has (column spiked-columns y) s)) size) size
 
   -- What may be judged: the register is sound, the column is one of it, and the new rows are in range and strictly rise.
   pub record Taken : Type 0 where

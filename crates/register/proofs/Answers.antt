@@ -1,6 +1,6 @@
 -- The two answers of a test. Rests on specs/Says.antt.
 use mathlib.Core.Bool.{Bool, true, false, not}
-use mathlib.Core.Path.{_≡_}
+use mathlib.Core.Path.{_≡_, refl}
 use Prim.Native.Nat.{ℕ, _<_}
 use native.Mathlib.Omega.{arith}
 use lib.Dec.{ltb}
@@ -20,6 +20,14 @@ module _ {P Q : Type 0} where
 
   pub shown : {r : Bool} → Told r P Q → not r ≡ false → P
   shown {r} s e = s .yes (not-false r e)
+
+-- Where what the answer `false` would rule out is known, the answer is `true`.
+pub surely : {P Q : Type 0} {r : Bool} → Told r P (¬ Q) → Q → P
+surely {P} {Q} {r} t q = go r refl
+  where
+    go : (b : Bool) → r ≡ b → P
+    go true e = t .yes e
+    go false e = absurd (t .no e q)
 
 -- An answer about what comes to the same.
 pub says-as : {P Q : Type 0} {r : Bool} → (P → Q) → (Q → P) → Says r P → Says r Q

@@ -1,10 +1,11 @@
 -- What stands between two places of a list. Rests on specs/Listing.antt.
 use mathlib.Core.List.{List, [], _∷_, _++_}
-use mathlib.Core.Path.{_≡_, sym, ap, _∙_}
+use mathlib.Core.Path.{_≡_, sym, ap, ap₂, _∙_}
 use Prim.Native.Nat.{ℕ, _+_, _-_, _≤_, _<_, suc}
+use native.Mathlib.Numerals.{add-one}
 use native.Mathlib.Omega.{arith}
 use lib.ListN.{length, take, drop, length-take, length-drop}
-use lib.Seq.{ext-getD, getD-take, getD-drop, take-suc}
+use lib.Seq.{ext-getD, getD-take, getD-drop, take-suc, take-add, drop-drop, drop-cons}
 use Rattle.pattern.specs.Places.{at}
 use Rattle.register.specs.Listing.{between}
 
@@ -15,7 +16,16 @@ module _ (a b : ℕ) (l : List ℕ) where
   pub between-at : (i : ℕ) → a + i < b → at (between a b l) i ≡ at l (a + i)
   between-at i h = getD-take (b - a) (drop a l) i 0 (omega arith) ∙ getD-drop a l i 0
 
--- One number more.
+pub between-none : (a : ℕ) (l : List ℕ) → between a a l ≡ []
+between-none a l = let e : a - a ≡ 0 = omega arith in ap (λ (n : ℕ). take n (drop a l)) e
+
+-- One number more, at the beginning or at the end.
+pub between-first : (a b : ℕ) (l : List ℕ) → a < b → b ≤ length l → between a b l ≡ at l a ∷ between (a + 1) b l
+between-first a b l h k =
+    let n : b - a ≡ suc (b - (a + 1)) = omega arith in
+    ap₂ (λ (n : ℕ) (j : List ℕ). take n j) n (drop-cons l a 0 (omega arith))
+    ∙ ap (λ (i : ℕ). at l a ∷ take (b - (a + 1)) (drop i l)) (sym (add-one a))
+
 pub between-more : (a b : ℕ) (l : List ℕ) → a ≤ b → b < length l → between a (b + 1) l ≡ between a b l ++ (at l b ∷ [])
 between-more a b l h k =
     let n : b + 1 - a ≡ suc (b - a) = omega arith in
@@ -29,3 +39,16 @@ pub between-same : (a b : ℕ) (k l : List ℕ) → b ≤ length k → b ≤ len
 between-same a b k l hk hl e =
     ext-getD 0 (between a b k) (between a b l) (between-length a b k hk ∙ sym (between-length a b l hl))
     (λ i h. let u : a + i < b = omega (arith, between-length a b k hk) in between-at a b k i u ∙ e (a + i) (omega arith) u ∙ sym (between-at a b l i u))
+
+-- Up to a place, and from there on.
+module _ (a b : ℕ) (l : List ℕ) (h : a ≤ b) where
+  pub take-between : take a l ++ between a b l ≡ take b l
+  take-between = let e : a + (b - a) ≡ b = omega arith in sym (take-add a (b - a) l) ∙ ap (λ (n : ℕ). take n l) e
+
+  pub between-between : (c : ℕ) → b ≤ c → between a b l ++ between b c l ≡ between a c l
+  between-between c k =
+      let n : (b - a) + (c - b) ≡ c - a = omega arith in
+      let e : a + (b - a) ≡ b = omega arith in
+      ap (λ (j : List ℕ). between a b l ++ take (c - b) j) (ap (λ (i : ℕ). drop i l) (sym e) ∙ sym (drop-drop (b - a) a l))
+      ∙ sym (take-add (b - a) (c - b) (drop a l))
+      ∙ ap (λ (i : ℕ). take i (drop a l)) n

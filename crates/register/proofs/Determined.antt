@@ -15,7 +15,7 @@ use Rattle.register.specs.Reply.{number, fault}
 use Rattle.register.specs.declared.Checked.{Checked}
 use Rattle.register.specs.declared.Checked.the-variants.{Sound, Refused}
 use Rattle.register.specs.declared.Refusal.{Refusal}
-use Rattle.register.specs.declared.Refusal.the-variants.{Size, ShortList, MalformedListing, ListingsDiffer, OrderUnsound}
+use Rattle.register.specs.declared.Refusal.the-variants.{Size, ShortList, MalformedListing, ListingsDiffer, OrderUnsound, ColumnNumber, NewColumn, NoRoom}
 use Rattle.register.specs.declared.marks.Marks.{Marks}
 
 -- A statement that gives its reply by an equation has one.
@@ -30,7 +30,10 @@ reply-of (suc zero) = Refused Size
 reply-of (suc (suc zero)) = Refused ShortList
 reply-of (suc (suc (suc zero))) = Refused MalformedListing
 reply-of (suc (suc (suc (suc zero)))) = Refused ListingsDiffer
-reply-of (suc (suc (suc (suc (suc n))))) = Refused OrderUnsound
+reply-of (suc (suc (suc (suc (suc zero))))) = Refused OrderUnsound
+reply-of (suc (suc (suc (suc (suc (suc zero)))))) = Refused ColumnNumber
+reply-of (suc (suc (suc (suc (suc (suc (suc zero))))))) = Refused NewColumn
+reply-of (suc (suc (suc (suc (suc (suc (suc (suc n)))))))) = Refused NoRoom
 
 reply-back : (r : Checked) → reply-of (fault r) ≡ r
 unfolding reply-of
@@ -40,6 +43,9 @@ reply-back (Refused ShortList) = refl
 reply-back (Refused MalformedListing) = refl
 reply-back (Refused ListingsDiffer) = refl
 reply-back (Refused OrderUnsound) = refl
+reply-back (Refused ColumnNumber) = refl
+reply-back (Refused NewColumn) = refl
+reply-back (Refused NoRoom) = refl
 
 -- ---- The public functions
 

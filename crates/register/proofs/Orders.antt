@@ -13,10 +13,13 @@ use lib.Seq.{getD-set-same, getD-set-other, take-suc}
 use Rattle.pattern.specs.Order.{Sound}
 use Rattle.pattern.specs.Pattern.{has, Entry}
 use Rattle.pattern.specs.Places.{at, Among, Outside, Once, place}
+use Rattle.pattern.specs.Rising.{Rising}
 use Rattle.pattern.specs.Series.{greatest}
+use Rattle.pattern.specs.Verdict.{top-place}
 use Rattle.pattern.proofs.Finding.{place-at, place-of}
-use Rattle.pattern.proofs.Greatest.{greatest-high, greatest-some, greatest-more}
+use Rattle.pattern.proofs.Greatest.{greatest-high, greatest-some, greatest-more, greatest-low, greatest-same}
 use Rattle.pattern.proofs.Once.{once-none, once-more}
+use Rattle.pattern.proofs.Rises.{rising-below}
 use Rattle.pattern.proofs.Search.{last-or}
 use Rattle.pattern.proofs.Tests.{has-among}
 use Rattle.pattern.proofs.Turning.{row-below}
@@ -70,6 +73,10 @@ module _ {m : ℕ} (f : ℕ → ℕ) where
         once = E .once;
         stand = λ x h. let p = place-of (E .once) x h in ap (at places) (sym (p .1)) ∙ E .there (place f m x) (p .0);
       }
+
+-- A place is one.
+pub placed-below : {m : ℕ} {f : ℕ → ℕ} {places : List ℕ} → Placed m f places → (x : ℕ) → x < m → at places x < m
+placed-below L x h = omega (arith, L .stand x h, place-of (L .once) x h .0)
 
 -- ---- Greatest places
 
@@ -128,3 +135,10 @@ module _ {m : ℕ} {cs cr : List ℕ} {row : ℕ → ℕ} {places : List ℕ} (G
 -- The greatest so far, and one row more.
 pub greatest-on : (f : ℕ → ℕ) (l : List ℕ) (k : ℕ) → k < length l → greatest f (take (k + 1) l) ≡ max (greatest f (take k l)) (f (at l k))
 greatest-on f l k h = ap (λ (n : ℕ). greatest f (take n l)) (add-one k) ∙ ap (greatest f) (take-suc l k 0 h) ∙ greatest-more f (take k l) (at l k)
+
+-- Of rows in range, the greatest place in the list is that of the order, and at most the size.
+pub top-is : {m : ℕ} {row : ℕ → ℕ} {places l : List ℕ} → Placed m row places → Rising m l → greatest (at places) l ≡ top-place row m l
+top-is {m} {row} {places} {l} L R = greatest-same (at places) (place row m) l (λ x u. L .stand x (rising-below R x u))
+
+pub top-few : {m : ℕ} {row : ℕ → ℕ} {l : List ℕ} → Once row m m → Rising m l → top-place row m l ≤ m
+top-few {m} {row} {l} o R = greatest-low (place row m) l m (λ x u. omega (arith, place-of o x (rising-below R x u) .0))

@@ -11,3 +11,8 @@ pub mod Sets
 pub mod Marks
 pub mod Walk
 pub mod Order
+pub mod Peel
+pub mod Reach
+pub mod Store
+pub mod Replace
+pub mod Judge

@@ -1,8 +1,11 @@
--- Sets of numbers below 1,024, by their tests: nothing here says how a set is kept. Rests on Limits.antt.
+-- Sets of numbers below 1,024, by their tests: nothing here says how a set is kept. Rests on Limits.antt and
+-- `pattern`.
 use mathlib.Core.Bool.{Bool, true, false}
+use mathlib.Core.List.{List}
 use mathlib.Core.Logic.{_≢_}
 use mathlib.Core.Path.{_≡_}
 use Prim.Native.Nat.{ℕ, _≤_, _<_}
+use Rattle.pattern.specs.Pattern.{has}
 use Rattle.pattern.specs.Series.{tally}
 use Rattle.register.specs.Limits.{max-mark}
 
@@ -17,6 +20,14 @@ pub record First (p : ℕ → Bool) (from r : ℕ) : Type 0 where
   pub within : r ≤ max-mark
   pub none : (k : ℕ) → from ≤ k → k < r → p k ≡ false
   pub there : r < max-mark → p r ≡ true
+
+-- The set has the numbers of a list.
+abbrev pub Of-list : (ℕ → Bool) → List ℕ → Type 0
+Of-list p l = (k : ℕ) → k < max-mark → p k ≡ has l k
+
+-- The set has numbers below `m` only.
+abbrev pub Only-below : (ℕ → Bool) → ℕ → Type 0
+Only-below p m = (k : ℕ) → m ≤ k → k < max-mark → p k ≡ false
 
 -- 1 for a number that is in the set, and 0 for one that is not.
 abbrev pub one : Bool → ℕ

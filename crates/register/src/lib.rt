@@ -1,20 +1,27 @@
 // A register of one square sparse pattern, kept in six lists that the caller lends.
+mod arrange;
 mod check;
+mod judge;
 mod listing;
 mod look;
 mod marks;
 mod order;
+mod peel;
+mod reach;
+mod replace;
 mod same;
+mod store;
 pub mod turn;
 mod wide;
 
 use crate::marks::Marks;
 ghost use mathlib.Core.Path.{_≡_};
-ghost use Rattle.register.specs.Checks.{First-fault};
+ghost use Rattle.register.specs.Checks.{First-fault, call};
 ghost use Rattle.register.specs.Lent.{lists, Fresh};
 ghost use Rattle.register.specs.Look.{Looked};
 ghost use Rattle.register.specs.Marks.{unmarked};
-ghost use Rattle.register.specs.Reply.{number, fault};
+ghost use Rattle.register.specs.Replace.{outcome, Replaces};
+ghost use Rattle.register.specs.Reply.{number, fault, reply};
 
 // What a call refuses, in the order of the build paper's numbers.
 pub enum Refusal {
@@ -23,12 +30,28 @@ pub enum Refusal {
     MalformedListing,
     ListingsDiffer,
     OrderUnsound,
+    ColumnNumber,
+    NewColumn,
+    NoRoom,
 }
 
 // What the check of a register replies.
 pub enum Checked {
     Sound,
     Refused(Refusal),
+}
+
+// The verdict on a replacement; ELIMINATION with its bump and the number of its eta rows.
+pub enum Judgment {
+    Singular,
+    Permuted,
+    Elimination { bump: usize, eta_count: usize },
+}
+
+// What a replacement replies.
+pub enum Replaced {
+    Refused(Refusal),
+    Given(Judgment),
 }
 
 impl Refusal {
@@ -42,6 +65,9 @@ impl Refusal {
             Refusal::MalformedListing => 3,
             Refusal::ListingsDiffer => 4,
             Refusal::OrderUnsound => 5,
+            Refusal::ColumnNumber => 6,
+            Refusal::NewColumn => 7,
+            Refusal::NoRoom => 8,
         }
     }
 }
@@ -110,5 +136,42 @@ impl Register {
         let from = span.from;
         let to = span.to;
         &col_rows[from..to]
+    }
+
+    // Replaces one column by the new rows, after the build paper's checks 1 to 8. The eta rows go to the head of the eta list.
+    pub fn replace(
+        self,
+        col_starts: &mut [u16],
+        col_rows: &mut [u16],
+        row_starts: &mut [u16],
+        row_cols: &mut [u16],
+        order_rows: &mut [u16],
+        order_cols: &mut [u16],
+        column: usize,
+        new_rows: &[u16],
+        eta: &mut [u16],
+    ) -> Replaced
+        ensures { λ r. ⌜ Replaces
+            (call (self .size)
+            (lists (now («col_starts» .entry)) (now («col_rows» .entry)) (now («row_starts» .entry)) (now («row_cols» .entry))
+            (now («order_rows» .entry)) (now («order_cols» .entry)))
+            column (now («new_rows» .entry)) (now (eta .entry)))
+            (outcome (reply r)
+            (lists (now («col_starts» .exit)) (now («col_rows» .exit)) (now («row_starts» .exit)) (now («row_cols» .exit))
+            (now («order_rows» .exit)) (now («order_cols» .exit)))
+            (now (eta .exit))) ⌝ }
+    {
+        replace::replace(
+            self.size,
+            col_starts,
+            col_rows,
+            row_starts,
+            row_cols,
+            order_rows,
+            order_cols,
+            column,
+            new_rows,
+            eta,
+        )
     }
 }

@@ -1,10 +1,15 @@
 // Marks on the numbers below 1,024, one for each. Callers go by the laws of specs/Sets.antt alone; only specs/Marks.antt
 // knows how marks are kept.
+use crate::wide::wide;
 ghost use mathlib.Core.Path.{_≡_};
-ghost use Prim.Native.Nat.{_≤_, _<_};
+ghost use Prim.Native.Nat.{ℕ, _+_, _≤_, _<_};
+ghost use lib.ListN.{length};
+ghost use Rattle.pattern.specs.Places.{at};
+ghost use Rattle.pattern.specs.Series.{numbers};
+ghost use Rattle.register.specs.Held.{put};
 ghost use Rattle.register.specs.Limits.{max-mark};
 ghost use Rattle.register.specs.Marks.{marked, unmarked};
-ghost use Rattle.register.specs.Sets.{With, First, counted};
+ghost use Rattle.register.specs.Sets.{With, First, Of-list, counted};
 
 pub struct Marks {
     pub marks: [bool; Marks::ROOM],
@@ -68,4 +73,34 @@ impl Marks {
         }
         sum
     }
+}
+
+// The numbers of a list, as marks.
+pub fn marks_of(numbers: &[u16]) -> Marks
+    requires { ⌜ ((k : ℕ) → k < length (now numbers) → at (now numbers) k < max-mark) ⌝ }
+    ensures { λ r. ⌜ Of-list (marked r) (now (numbers .entry)) ⌝ }
+{
+    let mut marks = Marks::none();
+    let mut k = 0;
+    while k < numbers.len() {
+        marks = marks.with(wide(numbers[k]));
+        k += 1;
+    }
+    marks
+}
+
+// Writes the marked numbers in rising order over a list from a place on, and replies how many they are.
+pub fn lay(marks: Marks, from: usize, list: &mut [u16]) -> usize
+    requires { ⌜ from + length (numbers (marked marks) max-mark) ≤ length (now list) ⌝ }
+    ensures { λ r. ⌜ (r ≡ length (numbers (marked marks) max-mark))
+        × (now (list .exit) ≡ put from (numbers (marked marks) max-mark) (now (list .entry))) ⌝ }
+{
+    let mut n = 0;
+    let mut k = marks.next(0);
+    while k < Marks::ROOM {
+        list[from + n] = k as u16;
+        n += 1;
+        k = marks.next(k + 1);
+    }
+    n
 }

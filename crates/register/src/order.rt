@@ -8,7 +8,7 @@ ghost use Prim.Native.Nat.{ℕ, _≤_, _<_};
 ghost use lib.ListN.{length};
 ghost use Rattle.pattern.specs.Order.{Sound};
 ghost use Rattle.pattern.specs.Pattern.{Entry};
-ghost use Rattle.pattern.specs.Places.{at, Once};
+ghost use Rattle.pattern.specs.Places.{at, Once, place};
 ghost use Rattle.pattern.specs.Series.{greatest};
 ghost use Rattle.register.specs.Limits.{max-size};
 ghost use Rattle.register.specs.Says.{Told, Says};
@@ -16,10 +16,10 @@ ghost use Rattle.register.specs.Listing.{parts, Good};
 ghost use Rattle.register.specs.Order.{Placed, Topped};
 
 // What stands in the scratch list for a number that has no place.
-const NOWHERE: u16 = 1000;
+pub const NOWHERE: u16 = 1000;
 
 // Enters the place of each number. False where one is m or more, or has a place already.
-fn enter(m: usize, numbers: &[u16], places: &mut [u16; Register::MAX_SIZE]) -> bool
+pub fn enter(m: usize, numbers: &[u16], places: &mut [u16; Register::MAX_SIZE]) -> bool
     requires { ⌜ (m ≤ max-size) × (m ≤ length (now numbers)) ⌝ }
     requires { ⌜ (length (now places) ≡ max-size) × ((x : ℕ) → x < max-size → at (now places) x ≡ max-size) ⌝ }
     ensures { λ answer. ⌜ Told answer (Placed m (at (now (numbers .entry))) (now (places .exit))) (¬ Once (at (now (numbers .entry))) m m) ⌝ }
@@ -37,6 +37,21 @@ fn enter(m: usize, numbers: &[u16], places: &mut [u16; Register::MAX_SIZE]) -> b
         t += 1;
     }
     true
+}
+
+// The place of the number x, or m where it has none.
+pub fn find(m: usize, numbers: &[u16], x: usize) -> usize
+    requires { ⌜ m ≤ length (now numbers) ⌝ }
+    ensures { λ r. ⌜ r ≡ place (at (now (numbers .entry))) m x ⌝ }
+{
+    let mut t = 0;
+    while t < m {
+        if wide(numbers[t]) == x {
+            return t;
+        }
+        t += 1;
+    }
+    m
 }
 
 // The greatest place of a row.

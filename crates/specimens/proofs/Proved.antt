@@ -78,7 +78,7 @@ module _ (s : Specimen) (e : computed s ≡ told s) where
       Ends g = Full (a .columns) (size a) (place (λ i. i) (size a)) g ⊎ Stuck (a .columns) (size a) g
 
       go : Ends (a .order-rows, a .order-cols) → Sound-order (Entry (a .columns)) (size a) (a .order-rows) (a .order-cols)
-      go (inl f) = record { row-count = f .0; col-count = f .1; sound = peel-sound (f .2 .peel) }
+      go (inl f) = record { row-count = f .row-count; col-count = f .col-count; sound = peel-sound (f .greedy .peel) }
       go (inr f) = absurd (omega (arith, ap (λ (f : Row). f .1) e, f .0))
 
   computed-right : Right s

@@ -1,0 +1,219 @@
+-- What `store` makes of a listing is what a verdict wants: the spiked columns, or the cleared ones; and that there is room for
+-- these. Rests on Without.antt, Listings.antt, Soundness.antt and `pattern`.
+use mathlib.Core.Bool.{Bool, cond}
+use mathlib.Core.List.{List, []}
+use mathlib.Core.Logic.{_≢_}
+use mathlib.Core.Path.{_≡_, sym, ap, _∙_, subst}
+use Prim.Native.Nat.{ℕ, _+_, _≤_, _<_}
+use native.Mathlib.Decide.{ℕ-discrete}
+use native.Mathlib.Omega.{arith}
+use lib.Dec.{T, eqb, eqb→eq}
+use lib.ListN.{length, set, length-set}
+use lib.Seq.{getD-take}
+use Rattle.pattern.specs.Choice.{No-choice}
+use Rattle.pattern.specs.Flat.{start-of}
+use Rattle.pattern.specs.Pattern.{has, column}
+use Rattle.pattern.specs.Places.{at, place}
+use Rattle.pattern.specs.Rising.{Rising}
+use Rattle.pattern.specs.Series.{each, numbers}
+use Rattle.pattern.specs.Verdict.{Replacement, size, col-at, c-place, c-row, spiked-columns, Spike, cleared-columns, Taken}
+use Rattle.pattern.proofs.Clearing.{
+  new-column,
+  old-column,
+  spiked-total,
+  stays,
+  stays-own,
+  stays-other,
+  c-row-below,
+  cleared-few,
+}
+use Rattle.pattern.proofs.Each.{each-same, each-is}
+use Rattle.pattern.proofs.Finding.{place-at}
+use Rattle.pattern.proofs.Numbers.{numbers-rise, numbers-are, numbers-same}
+use Rattle.pattern.proofs.Pairing.{col-place}
+use Rattle.pattern.proofs.Rises.{rising-below, rising-same}
+use Rattle.pattern.proofs.Tests.{T-true, T-false, eq-eqb, choose-same, choose-other}
+use Rattle.pattern.proofs.Turning.{Columns, row-below}
+use Rattle.pattern.proofs.Verdicts.{old-sound}
+use Rattle.register.specs.Checks.{Call, new-total, Fits, New-fits}
+use Rattle.register.specs.Judge.{Judgeable}
+use Rattle.register.specs.Lent.{columns}
+use Rattle.register.specs.Limits.{max-size, max-mark}
+use Rattle.register.specs.Replace.{asked}
+use Rattle.register.specs.Sets.{With, Of-list, Only-below}
+use Rattle.register.specs.Store.{without, exchanged}
+use Rattle.register.proofs.Between.{between-length}
+use Rattle.register.proofs.Listings.{starts-rise, part-is, good-within, good-columns, parts-start}
+use Rattle.register.proofs.Soundness.{columns-good, register-sound}
+use Rattle.register.proofs.Without.{without-has, has-without, without-none, without-rises}
+
+-- ---- The set of the new rows
+
+module _ {m : ℕ} {p : ℕ → Bool} {new : List ℕ} (R : Rising m new) (O : Of-list p new) where
+  pub of-list-below : Only-below p m
+  of-list-below k h b = O k b ∙ T-false (has new k) (λ t. omega (arith, rising-below R k t))
+
+  pub of-list-numbers : m ≤ max-mark → numbers p m ≡ new
+  of-list-numbers small =
+      rising-same (numbers p m) new (numbers-rise p m) R
+      (λ k t. let u = numbers-are p m k .0 t in subst T (O k (omega (arith, u .0))) (u .1))
+      (λ k t. let h = rising-below R k t in numbers-are p m k .1 (h, subst T (sym (O k (omega arith))) t))
+
+-- With a row below `m` too.
+pub with-below : {m i : ℕ} {p q : ℕ → Bool} → Only-below q m → i < m → With q p i → Only-below p m
+with-below B h W k u b = W .others k b (λ e. omega arith) ∙ B k u b
+
+-- ---- The spiked columns: no row is struck out
+
+-- Row `m` stands in no column.
+pub exchanged-spiked : {m c : ℕ} {P : List (List ℕ)} {new : List ℕ} {p : ℕ → Bool} → Columns m P → m ≤ max-size → c < m → Rising m new → Of-list p new
+    → exchanged m P c m p ≡ set P c new
+exchanged-spiked {m} {c} {P} {new} {p} C small h R O =
+    each-same (λ k. cond (eqb k c) (numbers p m) (without m (column P k))) (column (set P c new)) m (λ k u. go k (ℕ-discrete k c))
+    ∙ ap (each (column (set P c new))) (sym (length-set P c new ∙ C .size))
+    ∙ each-is (set P c new) []
+  where
+    go : (k : ℕ) → Dec (k ≡ c) → cond (eqb k c) (numbers p m) (without m (column P k)) ≡ column (set P c new) k
+    go k (yes e) =
+        choose-same k c (numbers p m) (without m (column P k)) e
+        ∙ of-list-numbers R O (omega arith)
+        ∙ sym (ap (column (set P c new)) e ∙ new-column P c new (omega (arith, C .size)))
+    go k (no n) =
+        choose-other k c (numbers p m) (without m (column P k)) n
+        ∙ without-none m (column P k) (λ t. omega (arith, row-below C m k t))
+        ∙ sym (old-column P c new k n)
+
+-- ---- The cleared columns: row r is struck out, and column c is given it
+
+module _ {a : Replacement} {p q : ℕ → Bool} (t : Taken a) (O : Of-list q (a .new-rows)) (W : With q p (c-row a)) where
+  pub cleared-below : Only-below p (size a)
+  cleared-below = with-below (of-list-below (t .new-rise) O) (c-row-below a t) W
+
+  module _ (C : Columns (size a) (a .columns)) (small : size a ≤ max-size) where
+    -- Column c.
+    cleared-new : (k : ℕ) → k ≡ a .replaced → numbers p (size a) ≡ numbers (stays a k) (size a)
+    cleared-new k e = numbers-same p (stays a k) (size a) (λ s h. go s h (ℕ-discrete s (c-row a)))
+      where
+        new : column (spiked-columns a) k ≡ a .new-rows
+        new = ap (column (spiked-columns a)) e ∙ new-column (a .columns) (a .replaced) (a .new-rows) (t .column-below)
+
+        go : (s : ℕ) → s < size a → Dec (s ≡ c-row a) → p s ≡ stays a k s
+        go s h (yes z) = ap p z ∙ W .here ∙ sym (stays-own a k s z ∙ T-true (eqb k (a .replaced)) (eq-eqb k (a .replaced) e))
+        go s h (no z) = W .others s (omega arith) z ∙ O s (omega arith) ∙ sym (stays-other a k s z ∙ ap (λ (l : List ℕ). has l s) new)
+
+    -- Another column.
+    abbrev struck : ℕ → List ℕ
+    struck k = without (c-row a) (column (a .columns) k)
+
+    cleared-old : (k : ℕ) → k < size a → k ≢ a .replaced → struck k ≡ numbers (stays a k) (size a)
+    cleared-old k h n =
+        rising-same (struck k) (numbers (stays a k) (size a)) (without-rises (c-row a) (column (a .columns) k) (C .rise k h)) (numbers-rise (stays a k) (size a))
+        (λ s u.
+        let v = without-has (c-row a) (column (a .columns) k) s u in
+        numbers-are (stays a k) (size a) s .1 (rising-below (C .rise k h) s (v .0), subst T (sym (same s (v .1))) (v .0)))
+        (λ s u. back s (numbers-are (stays a k) (size a) s .0 u .1) (ℕ-discrete s (c-row a)))
+      where
+        same : (s : ℕ) → s ≢ c-row a → stays a k s ≡ has (column (a .columns) k) s
+        same s z = stays-other a k s z ∙ ap (λ (l : List ℕ). has l s) (old-column (a .columns) (a .replaced) (a .new-rows) k n)
+
+        back : (s : ℕ) → T (stays a k s) → Dec (s ≡ c-row a) → T (has (struck k) s)
+        back s u (yes z) = absurd (n (eqb→eq k (a .replaced) (subst T (stays-own a k s z) u)))
+        back s u (no z) = has-without (c-row a) (column (a .columns) k) s (subst T (same s z) u) z
+
+    pub exchanged-cleared : exchanged (size a) (a .columns) (a .replaced) (c-row a) p ≡ cleared-columns a
+    exchanged-cleared = each-same after (λ k. numbers (stays a k) (size a)) (size a) (λ k h. go k h (ℕ-discrete k (a .replaced)))
+      where
+        after : ℕ → List ℕ
+        after k = cond (eqb k (a .replaced)) (numbers p (size a)) (struck k)
+
+        go : (k : ℕ) → k < size a → Dec (k ≡ a .replaced) → after k ≡ numbers (stays a k) (size a)
+        go k h (yes e) = choose-same k (a .replaced) (numbers p (size a)) (struck k) e ∙ cleared-new k e
+        go k h (no n) = choose-other k (a .replaced) (numbers p (size a)) (struck k) n ∙ cleared-old k h n
+
+-- ---- Of a call
+
+module _ {a : Call} (J : Judgeable a) where
+  -- Its columns list a pattern of its size.
+  pub call-columns : Columns (a .size) (columns (a .size) (a .lists))
+  call-columns = good-columns (columns-good (J .sound))
+
+  pub call-size : size (asked a) ≡ a .size
+  call-size = call-columns .size
+
+  pub call-taken-is : Taken (asked a)
+  call-taken-is =
+      record {
+        register = register-sound (J .sound);
+        column-below = omega (arith, call-size, J .column-below);
+        new-rise = rw call-size (J .new-rise);
+      }
+
+  asked-columns : Columns (size (asked a)) (columns (a .size) (a .lists))
+  asked-columns = subst (λ (n : ℕ). Columns n (columns (a .size) (a .lists))) (sym call-size) call-columns
+
+  -- The place of c and the row r, read off the lent lists.
+  placed : (c-place (asked a) < a .size) × (col-at (asked a) (c-place (asked a)) ≡ a .column)
+  placed =
+      let t = col-place (old-sound (asked a) call-taken-is) (a .column) (call-taken-is .column-below) in
+      (omega (arith, t .0, call-size), t .1)
+
+  pub call-place : c-place (asked a) ≡ place (at (a .lists .order-cols)) (a .size) (a .column)
+  call-place =
+      let cols = a .lists .order-cols in
+      sym (place-at (J .sound .order .cols) (c-place (asked a)) (placed .0))
+      ∙ ap (place (at cols) (a .size)) (sym (getD-take (a .size) cols (c-place (asked a)) 0 (placed .0)) ∙ placed .1)
+
+  pub call-row : c-row (asked a) ≡ at (a .lists .order-rows) (place (at (a .lists .order-cols)) (a .size) (a .column))
+  call-row =
+      let rows = a .lists .order-rows in
+      getD-take (a .size) rows (c-place (asked a)) 0 (placed .0) ∙ ap (at rows) call-place
+
+  -- What `store` makes of its columns.
+  pub call-spiked : {p : ℕ → Bool} → Of-list p (a .new-rows)
+      → exchanged (a .size) (columns (a .size) (a .lists)) (a .column) (a .size) p ≡ spiked-columns (asked a)
+  call-spiked O = exchanged-spiked call-columns (J .sound .sized .1) (J .column-below) (J .new-rise) O
+
+  module _ {p q : ℕ → Bool} {r : ℕ} (O : Of-list q (a .new-rows)) (W : With q p r) (e : r ≡ c-row (asked a)) where
+    pub call-cleared-below : Only-below p (a .size)
+    call-cleared-below = with-below (of-list-below (J .new-rise) O) (omega (arith, e, c-row-below (asked a) call-taken-is, call-size)) W
+
+    pub call-cleared : exchanged (a .size) (columns (a .size) (a .lists)) (a .column) r p ≡ cleared-columns (asked a)
+    call-cleared =
+        ap (λ (n : ℕ). exchanged n (columns (a .size) (a .lists)) (a .column) r p) (sym call-size)
+        ∙ ap (λ (x : ℕ). exchanged (size (asked a)) (columns (a .size) (a .lists)) (a .column) x p) e
+        ∙ exchanged-cleared call-taken-is O (subst (With q p) e W) asked-columns (omega (arith, call-size, J .sound .sized .1))
+
+  -- The total that is checked is that of the spiked columns.
+  pub spiked-total-is : start-of (spiked-columns (asked a)) (a .size) ≡ new-total (a .size) (a .lists .col-starts) (a .column) (length (a .new-rows))
+  spiked-total-is =
+      let starts = a .lists .col-starts in
+      let entries = a .lists .col-rows in
+      let G = columns-good (J .sound) in
+      let W = good-within G (a .column) (J .column-below) in
+      omega (
+        arith,
+        rw call-size at (spiked-total (columns (a .size) (a .lists)) (a .column) (a .new-rows) (omega (arith, call-size, J .column-below))),
+        parts-start (a .size) starts entries (G .room) (G .formed .starts-right) (a .size) (omega arith),
+        ap length (part-is (a .size) starts entries (a .column) (J .column-below)),
+        between-length (at starts (a .column)) (at starts (a .column + 1)) entries (W .in-list),
+        W .no-fall,
+        starts-rise (G .formed .starts-right) (a .column + 1) (a .size) (omega (arith, J .column-below)) (omega arith),
+      )
+
+  module _ (F : New-fits a) where
+    pub spiked-fits : Fits (start-of (spiked-columns (asked a)) (a .size)) (a .lists .col-rows) (a .lists .row-cols)
+    spiked-fits = rw spiked-total-is F
+
+    -- Where there is a full choice, the cleared columns have no more entries.
+    pub cleared-fits : ¬ No-choice (Spike (asked a)) (size (asked a))
+        → Fits (start-of (cleared-columns (asked a)) (a .size)) (a .lists .col-rows) (a .lists .row-cols)
+    cleared-fits some =
+        record {
+          few = omega (arith, less, spiked-fits .few);
+          in-columns = omega (arith, less, spiked-fits .in-columns);
+          in-rows = omega (arith, less, spiked-fits .in-rows);
+        }
+      where
+        less : start-of (cleared-columns (asked a)) (a .size) ≤ start-of (spiked-columns (asked a)) (a .size)
+        less = subst (λ (n : ℕ). start-of (cleared-columns (asked a)) n ≤ start-of (spiked-columns (asked a)) n) call-size
+            (cleared-few (asked a) call-taken-is asked-columns some)

@@ -1,0 +1,60 @@
+-- Replacement of a column: what comes back, for every call. Rests on Checks.antt, Held.antt, Reply.antt and `pattern`.
+use mathlib.Core.List.{List}
+use mathlib.Core.Path.{_≡_}
+use Prim.Native.Nat.{ℕ}
+use lib.ListN.{length, take}
+use Rattle.pattern.specs.Flat.{flat, starts-of}
+use Rattle.pattern.specs.Turned.{turned}
+use Rattle.pattern.specs.Verdict.{Replacement, spiked-columns, cleared-columns, Verdict, Singular, Permuted, Elimination, Judged}
+use Rattle.register.specs.Checks.{Call, Call-checks}
+use Rattle.register.specs.Held.{over}
+use Rattle.register.specs.Lent.{Lists, lists, columns}
+use Rattle.register.specs.Reply.{Reply, refused, singular, permuted, elimination}
+
+-- What comes back: the reply, and the lent lists as they are then.
+pub record Outcome : Type 0 where
+  pub reply : Reply
+  pub lists : Lists
+  pub eta : List ℕ
+
+abbrev pub outcome : Reply → Lists → List ℕ → Outcome
+outcome r l eta = record { reply = r; lists = l; eta = eta }
+
+module _ (a : Call) where
+  -- The replacement that is asked for, on the pattern of the columns.
+  abbrev pub asked : Replacement
+  asked =
+      record {
+        columns = columns (a .size) (a .lists);
+        order-rows = take (a .size) (a .lists .order-rows);
+        order-cols = take (a .size) (a .lists .order-cols);
+        replaced = a .column;
+        new-rows = a .new-rows;
+      }
+
+  -- The lists hold the columns `P` in both listings, and the order; past what these use, they hold what they held.
+  abbrev pub stored : (P : List (List ℕ)) (rows cols : List ℕ) → Lists
+  stored P rows cols =
+      let l = a .lists in
+      let Q = turned (a .size) P in
+      lists (over (starts-of P) (l .col-starts)) (over (flat P) (l .col-rows)) (over (starts-of Q) (l .row-starts)) (over (flat Q) (l .row-cols))
+      (over rows (l .order-rows)) (over cols (l .order-cols))
+
+  -- A refusal by its number changes nothing.
+  abbrev pub refusal : ℕ → Outcome
+  refusal n = outcome (refused n) (a .lists) (a .eta)
+
+  -- What a verdict leaves. SINGULAR: nothing changes. PERMUTED: the spiked pattern in the verdict's order. ELIMINATION: the
+  -- cleared pattern in the verdict's order, and the eta rows at the head of the eta list.
+  abbrev pub after : Verdict → Outcome
+  after Singular = outcome singular (a .lists) (a .eta)
+  after (Permuted rows cols) = outcome permuted (stored (spiked-columns asked) rows cols) (a .eta)
+  after (Elimination rows cols bump eta) = outcome (elimination bump (length eta)) (stored (cleared-columns asked) rows cols) (over eta (a .eta))
+
+  -- The right verdict is given, and its outcome.
+  abbrev pub Answered : Outcome → Type 0
+  Answered o = (v : Verdict) × Judged asked v × (o ≡ after v)
+
+  -- The outcome is right: the refusal of the first check that fails, else that of the right verdict.
+  abbrev pub Replaces : Outcome → Type 0
+  Replaces = Call-checks a refusal Answered
