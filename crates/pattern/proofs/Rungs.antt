@@ -1,5 +1,5 @@
 -- A ladder of refusals has one outcome at most. Rests on specs/Ladder.antt.
-use mathlib.Core.Path.{_≡_, sym, _∙_}
+use mathlib.Core.Path.{_≡_, sym, _∙_, subst}
 use Rattle.pattern.specs.Ladder.{Unless, fails, holds}
 
 -- One rung: where the check holds, what is above it has one outcome at most. Whether it holds need not be decided.
@@ -15,3 +15,8 @@ pub unless-map : {A B P : Type 0} {x : A} {y : B} {rest : A → Type 0} {rest′
     → Unless P x rest o → Unless P y rest′ o′
 unless-map f g (fails n e) = fails n (f e)
 unless-map f g (holds p r) = holds p (g r)
+
+-- What holds of the refusal, and of what is above, holds of the outcome.
+pub unless-both : {A P : Type 0} {x : A} {rest : A → Type 0} {o : A} (F : A → Type 0) → F x → (P → rest o → F o) → Unless P x rest o → F o
+unless-both F f g (fails n e) = subst F (sym e) f
+unless-both F f g (holds p r) = g p r

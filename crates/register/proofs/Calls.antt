@@ -1,19 +1,23 @@
 -- A replacement's ladder of checks: from a fault by its number to a refusal, and from no fault to what is taken.
 -- Rests on specs/Judge.antt, Soundness.antt and `pattern`.
 use mathlib.Core.Logic.{_≢_}
-use mathlib.Core.Path.{_≡_, refl, ap}
+use mathlib.Core.Path.{_≡_, ap}
 use Prim.Native.Nat.{ℕ, _≤_}
 use native.Mathlib.Omega.{arith}
 use lib.ListN.{length}
 use Rattle.pattern.specs.Ladder.{fails, holds}
+use Rattle.pattern.specs.Verdict.{size, Taken}
 use Rattle.pattern.proofs.Rungs.{unless-map}
-use Rattle.register.specs.Checks.{First-fault, Call, New-fits, Column-checks, Call-checks, Call-fault}
+use Rattle.pattern.proofs.Turning.{Columns}
+use Rattle.register.specs.Checks.{First-fault, Call, New-fits, Column-checks, Call-fault}
 use Rattle.register.specs.Judge.{Judgeable}
-use Rattle.register.specs.Lent.{Sound-lists}
+use Rattle.register.specs.Lent.{columns, Sound-lists}
 use Rattle.register.specs.Reply.{number}
 use Rattle.register.specs.declared.Refusal.{Refusal}
 use Rattle.register.specs.declared.Refusal.the-variants.{Size, ShortList, MalformedListing, ListingsDiffer, OrderUnsound, ColumnNumber, NewColumn, NoRoom}
-use Rattle.register.specs.Replace.{Outcome, refusal, Answered, Replaces}
+use Rattle.register.specs.Replace.{Outcome, asked, refusal, Answered, Replaces}
+use Rattle.register.proofs.Listings.{good-columns}
+use Rattle.register.proofs.Soundness.{columns-good, register-sound}
 
 -- Every refusal has a number other than 0.
 pub number-some : (r : Refusal) → number r ≢ 0
@@ -25,6 +29,22 @@ number-some OrderUnsound e = omega arith
 number-some ColumnNumber e = omega arith
 number-some NewColumn e = omega arith
 number-some NoRoom e = omega arith
+
+-- What may be judged in lent lists may be judged as a pattern: the columns list one of the call's size.
+module _ {a : Call} (J : Judgeable a) where
+  pub call-columns : Columns (a .size) (columns (a .size) (a .lists))
+  call-columns = good-columns (columns-good (J .sound))
+
+  pub call-size : size (asked a) ≡ a .size
+  call-size = call-columns .size
+
+  pub call-judged : Taken (asked a)
+  call-judged =
+      record {
+        register = register-sound (J .sound);
+        column-below = omega (arith, call-size, J .column-below);
+        new-rise = rw call-size (J .new-rise);
+      }
 
 module _ (a : Call) where
   -- A fault of the register is one of the call, where the eta list is long enough.

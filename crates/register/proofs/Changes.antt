@@ -43,7 +43,8 @@ use Rattle.register.specs.Sets.{With, Of-list}
 use Rattle.register.specs.Store.{exchanged}
 use Rattle.register.specs.declared.Judgment.{Judgment}
 use Rattle.register.specs.declared.Judgment.the-variants as judgment
-use Rattle.register.proofs.Exchanged.{call-columns, call-size, call-place, call-row, call-spiked, call-cleared, spiked-fits, cleared-fits}
+use Rattle.register.proofs.Calls.{call-columns, call-size}
+use Rattle.register.proofs.Exchanged.{call-place, call-spiked, call-cleared, spiked-fits, cleared-fits}
 use Rattle.register.proofs.Readback.{held-parts, held-good}
 
 -- ---- What a judgment tells

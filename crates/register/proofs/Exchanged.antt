@@ -43,8 +43,9 @@ use Rattle.register.specs.Replace.{asked}
 use Rattle.register.specs.Sets.{With, Of-list, Only-below}
 use Rattle.register.specs.Store.{without, exchanged}
 use Rattle.register.proofs.Between.{between-length}
-use Rattle.register.proofs.Listings.{starts-rise, part-is, good-within, good-columns, parts-start}
-use Rattle.register.proofs.Soundness.{columns-good, register-sound}
+use Rattle.register.proofs.Listings.{starts-rise, part-is, good-within, parts-start}
+use Rattle.register.proofs.Calls.{call-columns, call-size, call-judged}
+use Rattle.register.proofs.Soundness.{columns-good}
 use Rattle.register.proofs.Without.{without-has, has-without, without-none, without-rises}
 
 -- ---- The set of the new rows
@@ -133,29 +134,14 @@ module _ {a : Replacement} {p q : ℕ → Bool} (t : Taken a) (O : Of-list q (a 
 -- ---- Of a call
 
 module _ {a : Call} (J : Judgeable a) where
-  -- Its columns list a pattern of its size.
-  pub call-columns : Columns (a .size) (columns (a .size) (a .lists))
-  call-columns = good-columns (columns-good (J .sound))
-
-  pub call-size : size (asked a) ≡ a .size
-  call-size = call-columns .size
-
-  pub call-taken-is : Taken (asked a)
-  call-taken-is =
-      record {
-        register = register-sound (J .sound);
-        column-below = omega (arith, call-size, J .column-below);
-        new-rise = rw call-size (J .new-rise);
-      }
-
   asked-columns : Columns (size (asked a)) (columns (a .size) (a .lists))
-  asked-columns = subst (λ (n : ℕ). Columns n (columns (a .size) (a .lists))) (sym call-size) call-columns
+  asked-columns = subst (λ (n : ℕ). Columns n (columns (a .size) (a .lists))) (sym (call-size J)) (call-columns J)
 
   -- The place of c and the row r, read off the lent lists.
   placed : (c-place (asked a) < a .size) × (col-at (asked a) (c-place (asked a)) ≡ a .column)
   placed =
-      let t = col-place (old-sound (asked a) call-taken-is) (a .column) (call-taken-is .column-below) in
-      (omega (arith, t .0, call-size), t .1)
+      let t = col-place (old-sound (asked a) (call-judged J)) (a .column) (call-judged J .column-below) in
+      (omega (arith, t .0, call-size J), t .1)
 
   pub call-place : c-place (asked a) ≡ place (at (a .lists .order-cols)) (a .size) (a .column)
   call-place =
@@ -171,17 +157,17 @@ module _ {a : Call} (J : Judgeable a) where
   -- What `store` makes of its columns.
   pub call-spiked : {p : ℕ → Bool} → Of-list p (a .new-rows)
       → exchanged (a .size) (columns (a .size) (a .lists)) (a .column) (a .size) p ≡ spiked-columns (asked a)
-  call-spiked O = exchanged-spiked call-columns (J .sound .sized .1) (J .column-below) (J .new-rise) O
+  call-spiked O = exchanged-spiked (call-columns J) (J .sound .sized .1) (J .column-below) (J .new-rise) O
 
   module _ {p q : ℕ → Bool} {r : ℕ} (O : Of-list q (a .new-rows)) (W : With q p r) (e : r ≡ c-row (asked a)) where
     pub call-cleared-below : Only-below p (a .size)
-    call-cleared-below = with-below (of-list-below (J .new-rise) O) (omega (arith, e, c-row-below (asked a) call-taken-is, call-size)) W
+    call-cleared-below = with-below (of-list-below (J .new-rise) O) (omega (arith, e, c-row-below (asked a) (call-judged J), call-size J)) W
 
     pub call-cleared : exchanged (a .size) (columns (a .size) (a .lists)) (a .column) r p ≡ cleared-columns (asked a)
     call-cleared =
-        ap (λ (n : ℕ). exchanged n (columns (a .size) (a .lists)) (a .column) r p) (sym call-size)
+        ap (λ (n : ℕ). exchanged n (columns (a .size) (a .lists)) (a .column) r p) (sym (call-size J))
         ∙ ap (λ (x : ℕ). exchanged (size (asked a)) (columns (a .size) (a .lists)) (a .column) x p) e
-        ∙ exchanged-cleared call-taken-is O (subst (With q p) e W) asked-columns (omega (arith, call-size, J .sound .sized .1))
+        ∙ exchanged-cleared (call-judged J) O (subst (With q p) e W) asked-columns (omega (arith, call-size J, J .sound .sized .1))
 
   -- The total that is checked is that of the spiked columns.
   pub spiked-total-is : start-of (spiked-columns (asked a)) (a .size) ≡ new-total (a .size) (a .lists .col-starts) (a .column) (length (a .new-rows))
@@ -192,7 +178,7 @@ module _ {a : Call} (J : Judgeable a) where
       let W = good-within G (a .column) (J .column-below) in
       omega (
         arith,
-        rw call-size at (spiked-total (columns (a .size) (a .lists)) (a .column) (a .new-rows) (omega (arith, call-size, J .column-below))),
+        rw (call-size J) at (spiked-total (columns (a .size) (a .lists)) (a .column) (a .new-rows) (omega (arith, call-size J, J .column-below))),
         parts-start (a .size) starts entries (G .room) (G .formed .starts-right) (a .size) (omega arith),
         ap length (part-is (a .size) starts entries (a .column) (J .column-below)),
         between-length (at starts (a .column)) (at starts (a .column + 1)) entries (W .in-list),
@@ -215,5 +201,5 @@ module _ {a : Call} (J : Judgeable a) where
         }
       where
         less : start-of (cleared-columns (asked a)) (a .size) ≤ start-of (spiked-columns (asked a)) (a .size)
-        less = subst (λ (n : ℕ). start-of (cleared-columns (asked a)) n ≤ start-of (spiked-columns (asked a)) n) call-size
-            (cleared-few (asked a) call-taken-is asked-columns some)
+        less = subst (λ (n : ℕ). start-of (cleared-columns (asked a)) n ≤ start-of (spiked-columns (asked a)) n) (call-size J)
+            (cleared-few (asked a) (call-judged J) asked-columns some)

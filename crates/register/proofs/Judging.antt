@@ -57,7 +57,8 @@ use Rattle.register.specs.Reach.{By-rows, Reached, Rows-at}
 use Rattle.register.specs.Replace.{asked}
 use Rattle.register.specs.Sets.{Of-list, Only-below}
 use Rattle.register.specs.declared.Judgment.the-variants as judgment
-use Rattle.register.proofs.Exchanged.{call-size, call-taken-is, call-place}
+use Rattle.register.proofs.Calls.{call-size, call-judged}
+use Rattle.register.proofs.Exchanged.{call-place}
 use Rattle.register.proofs.Numbered.{below-numbers}
 
 module _ {a : Call} (J : Judgeable a) where
@@ -71,7 +72,7 @@ module _ {a : Call} (J : Judgeable a) where
   col = at (a .lists .order-cols)
 
   t : Taken (asked a)
-  t = call-taken-is J
+  t = call-judged J
 
   -- ---- The order, read from the lent lists and from their first places
 

@@ -24,10 +24,14 @@ pub mod Sweeping
 pub mod Arranging
 pub mod PeelCounts
 pub mod Peels
-pub mod Determined
 pub mod Soundness
 pub mod Calls
 pub mod Exchanged
 pub mod Judging
 pub mod Changes
+pub mod Determined
+pub mod Runs
+pub mod Deciding
+pub mod Decided
+pub mod Outcomes
 pub mod StandIns

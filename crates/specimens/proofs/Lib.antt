@@ -2,3 +2,5 @@
 pub mod Replies
 pub mod Proved
 pub mod StandIns
+pub mod Called
+pub mod DeskStandIns

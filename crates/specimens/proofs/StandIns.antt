@@ -20,16 +20,16 @@ Desk = Replacement → Reply
 abbrev pub Fails-on : Specimen → Desk → Type 0
 Fails-on s d = ¬ Replied (s .asked) (d (s .asked))
 
--- What holds of each row of the table holds of the one at a place of it: of s1 at place 0, of s12 at place 11.
-at-place : (F : Specimen → Type 0) (l : List Specimen) → Each F l → (k : ℕ) → k < length l → F (getD l k s1)
-at-place F [] e k h = absurd (omega arith)
-at-place F (x ∷ l) e zero h = e .0
-at-place F (x ∷ l) e (suc k) h = at-place F l (e .1) k (omega arith)
+-- What holds of each row of a table holds of the one at a place of it: of s1 at place 0, of s12 at place 11.
+pub at-place : {A : Type 0} (d : A) (F : A → Type 0) (l : List A) → Each F l → (k : ℕ) → k < length l → F (getD l k d)
+at-place d F [] e k h = absurd (omega arith)
+at-place d F (x ∷ l) e zero h = e .0
+at-place d F (x ∷ l) e (suc k) h = at-place d F l (e .1) k (omega arith)
 
 -- A right reply to a row of the table is the row's.
 as-told : (k : ℕ) → k < length table → (r : Reply) → Replied (getD table k s1 .asked) r → r ≡ getD table k s1 .reply
 as-told k h r x =
-    reply-unique (getD table k s1 .asked) (at-place Starts table registers k h) r (getD table k s1 .reply) x (at-place Right table specimens k h)
+    reply-unique (getD table k s1 .asked) (at-place s1 Starts table registers k h) r (getD table k s1 .reply) x (at-place s1 Right table specimens k h)
 
 told-1 : (r : Reply) → Replied (s1 .asked) r → r ≡ s1 .reply
 told-1 = as-told 0 (lit< tt)

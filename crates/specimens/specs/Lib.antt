@@ -1,2 +1,3 @@
 pub mod Reply
 pub mod Table
+pub mod Calls

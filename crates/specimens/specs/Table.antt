@@ -83,7 +83,7 @@ table = s1 ∷ s2 ∷ s3 ∷ s4 ∷ s5 ∷ s6 ∷ s7 ∷ s8 ∷ s9 ∷ s10 ∷ s
 abbrev pub Right : Specimen → Type 0
 Right s = Replied (s .asked) (s .reply)
 
--- What holds of each specimen of a list.
-abbrev pub Each : (Specimen → Type 0) → List Specimen → Type 0
+-- What holds of each row of a table.
+abbrev pub Each : {A : Type 0} → (A → Type 0) → List A → Type 0
 Each Holds [] = Unit {0}
 Each Holds (s ∷ l) = Holds s × Each Holds l
