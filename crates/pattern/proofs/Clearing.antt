@@ -40,7 +40,7 @@ module _ (P : List (List ℕ)) (c : ℕ) (new : List ℕ) where
   -- The total changes by what the column does.
   pub spiked-total : c < length P → start-of (set P c new) (length P) + length (column P c) ≡ start-of P (length P) + length new
   spiked-total h =
-      tally-changed (λ y. length (column P y)) (λ y. length (column (set P c new) y)) (length P) c h (λ y n. ap length (old-column y n))
+      tally-changed (λ y. length (column P y)) (λ y. length (column (set P c new) y)) (length P) c h (λ y u n. ap length (old-column y n))
       ∙ ap (λ (l : List ℕ). start-of P (length P) + length l) (new-column h)
 
 -- It lists a pattern where the new rows rise.

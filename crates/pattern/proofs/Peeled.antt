@@ -3,19 +3,18 @@
 use mathlib.Core.Bool.{Bool, true, false, cond, not, _&&_, _||_}
 use mathlib.Core.List.{List, [], _∷_, _++_}
 use mathlib.Core.Logic.{_⊎_, inl, inr}
-use mathlib.Core.Path.{_≡_, refl, sym, ap, _∙_, subst, subst₂}
+use mathlib.Core.Path.{_≡_, refl, sym, ap, _∙_, subst}
 use Prim.Native.Nat.{ℕ, zero, suc, _+_, _≤_, _<_}
 use native.Mathlib.Decide.{decLt}
 use native.Mathlib.Omega.{arith}
 use lib.Dec.{T, T-not, not-T, eqb, eqb→eq, ltb, ltb→lt, lt→ltb}
-use lib.ListN.{length, length-append, List·getD-append}
-use lib.Seq.{getD-at}
+use lib.ListN.{length}
 use Rattle.pattern.specs.Order.{Triangular}
 use Rattle.pattern.specs.Pattern.{has, column, Entry, Rows-below}
 use Rattle.pattern.specs.Peel.{Available, Whole}
-use Rattle.pattern.specs.Places.{at, Outside, Once, Same, least, place}
+use Rattle.pattern.specs.Places.{at, Outside, Once, least, place}
 use Rattle.pattern.proofs.Tests.{T-dec, T-true, T-false, eq-eqb, and-both, and-left, and-right, or-cases, or-left, or-right, has-cases, has-here, has-there, has-among, among-has}
-use Rattle.pattern.proofs.Search.{None, Sought, least-is, last-or}
+use Rattle.pattern.proofs.Search.{None, Sought, least-is}
 use Rattle.pattern.proofs.Finding.{place-at, place-of}
 use Rattle.pattern.proofs.Growing.{Grown, grown-none, grown-more, grown-full, grown-stuck}
 

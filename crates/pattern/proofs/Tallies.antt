@@ -49,17 +49,17 @@ module _ (f : ℕ → ℕ) where
     tally-less (suc n) e = omega (arith, tally-less n (λ i h. e i (omega arith)), e n (omega arith))
 
     -- One of the numbers is another.
-    pub tally-changed : (n i : ℕ) → i < n → ((x : ℕ) → x ≢ i → g x ≡ f x) → tally g n + f i ≡ tally f n + g i
+    pub tally-changed : (n i : ℕ) → i < n → ((x : ℕ) → x < n → x ≢ i → g x ≡ f x) → tally g n + f i ≡ tally f n + g i
     unfolding tally
     tally-changed zero i h o = absurd (omega arith)
     tally-changed (suc n) i h o =
         ⊎-elim
-        (λ u. omega (arith, tally-changed n i u o, o n (λ z. omega arith)))
-        (λ z. omega (arith, ap f z, ap g z, tally-same n (λ x u. sym (o x (λ w. omega arith)))))
+        (λ u. omega (arith, tally-changed n i u (λ x b. o x (omega arith)), o n (omega arith) (λ z. omega arith)))
+        (λ z. omega (arith, ap f z, ap g z, tally-same n (λ x u. sym (o x (omega arith) (λ w. omega arith)))))
         (last-or n i h)
 
     -- It is one more.
-    pub tally-one : (n i : ℕ) → i < n → g i ≡ f i + 1 → ((x : ℕ) → x ≢ i → g x ≡ f x) → tally g n ≡ tally f n + 1
+    pub tally-one : (n i : ℕ) → i < n → g i ≡ f i + 1 → ((x : ℕ) → x < n → x ≢ i → g x ≡ f x) → tally g n ≡ tally f n + 1
     tally-one n i h e o = omega (arith, tally-changed n i h o)
 
 -- The first number by itself.
@@ -81,7 +81,7 @@ module _ {m : ℕ} {P : List (List ℕ)} (C : Columns m P) where
   met-total j (suc k) h b =
       tally-one (λ r. length (met P r j k)) (λ r. length (met P r j (suc k))) m (at (column P j) k) (C .rise j h .below k b)
       (ap length (on (at (column P j) k) ∙ met-here P (at (column P j) k) j k b (C .rise j h) refl) ∙ length-append (met P (at (column P j) k) j k) (j ∷ []))
-      (λ r n. ap length (on r ∙ met-other P r j k b n))
+      (λ r u n. ap length (on r ∙ met-other P r j k b n))
       ∙ ap (λ (n : ℕ). n + 1) (met-total j k h (omega arith))
       ∙ omega arith
     where

@@ -2,8 +2,8 @@
 -- Exchanged.antt and Readback.antt.
 use mathlib.Core.Bool.{Bool}
 use mathlib.Core.List.{List}
-use mathlib.Core.Path.{_≡_, refl, sym, ap, _∙_, subst}
-use Prim.Native.Nat.{ℕ, _+_, _≤_, _<_}
+use mathlib.Core.Path.{_≡_, refl, sym, ap, _∙_}
+use Prim.Native.Nat.{ℕ}
 use native.Mathlib.Omega.{arith}
 use lib.ListN.{length, take}
 use Rattle.pattern.specs.Choice.{No-choice}
@@ -12,24 +12,8 @@ use Rattle.pattern.specs.Order.{Sound}
 use Rattle.pattern.specs.Pattern.{Entry}
 use Rattle.pattern.specs.Places.{at, place}
 use Rattle.pattern.specs.Turned.{turned}
-use Rattle.pattern.specs.Verdict.{
-  size,
-  c-place,
-  c-row,
-  spiked-columns,
-  Spike,
-  cleared-columns,
-  Verdict,
-  Singular,
-  Permuted,
-  Elimination,
-  to-last,
-  Is-permuted,
-  Is-elimination,
-  Judged,
-}
+use Rattle.pattern.specs.Verdict.{size, c-place, c-row, spiked-columns, Spike, Verdict, Singular, Permuted, Elimination, to-last, Is-permuted, Is-elimination, Judged}
 use Rattle.pattern.proofs.Clearing.{spiked-columns-rise}
-use Rattle.pattern.proofs.Finding.{place-of}
 use Rattle.pattern.proofs.Turning.{Columns}
 use Rattle.register.specs.Checks.{Call, Fits, New-fits}
 use Rattle.register.specs.Held.{over, Held}

@@ -1,24 +1,23 @@
 -- A column exchanged in a listing is one emptied and then filled: of parts, and in lists.
 -- Rests on specs/Store.antt, Readback.antt and Puts.antt.
 use mathlib.Core.Bool.{Bool, true, false, cond}
-use mathlib.Core.List.{List, [], _∷_}
-use mathlib.Core.Logic.{⊎-elim}
+use mathlib.Core.List.{List, []}
 use mathlib.Core.Path.{_≡_, refl, sym, ap, _∙_}
 use Prim.Native.Nat.{ℕ, _+_, _≤_, _<_}
 use native.Mathlib.Omega.{arith}
-use lib.Dec.{T, eqb}
+use lib.Dec.{eqb}
 use lib.ListN.{length}
 use Rattle.pattern.specs.Flat.{flat, start-of, starts-of}
-use Rattle.pattern.specs.Pattern.{has, column}
+use Rattle.pattern.specs.Pattern.{column}
 use Rattle.pattern.specs.Places.{at}
 use Rattle.pattern.specs.Rising.{Rising}
 use Rattle.pattern.specs.Series.{each, numbers}
 use Rattle.pattern.proofs.Each.{length-each, each-at, each-same}
 use Rattle.pattern.proofs.Flats.{each-start}
 use Rattle.pattern.proofs.Numbers.{numbers-rise}
-use Rattle.pattern.proofs.Rises.{rising-none, rising-tail, rising-after, rising-front}
+use Rattle.pattern.proofs.Rises.{rising-none}
 use Rattle.pattern.proofs.Tallies.{tally-next, tally-less, flat-length}
-use Rattle.pattern.proofs.Tests.{choose-same, has-cases, has-here, has-there}
+use Rattle.pattern.proofs.Tests.{choose-same}
 use Rattle.pattern.proofs.Turning.{Columns}
 use Rattle.register.specs.Held.{over, Held}
 use Rattle.register.specs.Limits.{max-total}
@@ -26,25 +25,8 @@ use Rattle.register.specs.Listing.{parts, Good}
 use Rattle.register.specs.Store.{without, left, emptied, filled, exchanged}
 use Rattle.register.proofs.Listings.{good-columns}
 use Rattle.register.proofs.Puts.{over-over}
+use Rattle.register.proofs.Without.{without-rises}
 use Rattle.register.proofs.Readback.{held-entries-long, held-start, held-parts, held-good}
-
--- ---- What rises still does without one number
-
-without-has : (r : ℕ) (l : List ℕ) (x : ℕ) → T (has (without r l) x) → T (has l x)
-without-has r [] x t = t
-without-has r (y ∷ l) x t = go (eqb y r) (without-has r l x) t
-  where
-    go : (b : Bool) → (T (has (without r l) x) → T (has l x)) → T (has (cond b (without r l) (y ∷ without r l)) x) → T (has (y ∷ l) x)
-    go true f t = has-there y x l (f t)
-    go false f t = ⊎-elim (λ e. has-here y x l e) (λ u. has-there y x l (f u)) (has-cases y x (without r l) t)
-
-without-rises : {m : ℕ} (r : ℕ) (l : List ℕ) → Rising m l → Rising m (without r l)
-without-rises r [] s = s
-without-rises {m} r (y ∷ l) s = go (eqb y r) (without-rises r l (rising-tail s))
-  where
-    go : (b : Bool) → Rising m (without r l) → Rising m (cond b (without r l) (y ∷ without r l))
-    go true t = t
-    go false t = rising-front (s .below 0 (omega arith)) (λ x u. rising-after s x (without-has r l x u)) t
 
 -- ---- A listing with column `c` exchanged for the numbers `a`, and without row `r`
 

@@ -2,39 +2,22 @@
 -- `pattern`.
 use mathlib.Core.Bool.{Bool}
 use mathlib.Core.List.{List}
-use mathlib.Core.Logic.{_≢_, _↔_}
+use mathlib.Core.Logic.{_↔_}
 use mathlib.Core.Path.{_≡_, refl, sym, ap, _∙_, subst}
 use Prim.Native.Nat.{ℕ, _+_, _-_, _≤_, _<_}
 use native.Mathlib.Decide.{decLt}
 use native.Mathlib.Omega.{arith}
 use lib.Dec.{T}
-use lib.ListN.{length, take}
+use lib.ListN.{length}
 use lib.Seq.{getD-take}
 use Rattle.pattern.specs.Choice.{No-choice}
 use Rattle.pattern.specs.Order.{Sound, Triangular, Paired}
-use Rattle.pattern.specs.Pattern.{has, Entry}
+use Rattle.pattern.specs.Pattern.{has}
 use Rattle.pattern.specs.Peel.{Whole}
 use Rattle.pattern.specs.Places.{at, Same, place}
 use Rattle.pattern.specs.Series.{numbers}
 use Rattle.pattern.specs.Reach.{Reach}
-use Rattle.pattern.specs.Verdict.{
-  size,
-  row-at,
-  col-at,
-  old-place,
-  c-place,
-  Old,
-  spiked-columns,
-  Spike,
-  Taken,
-  Permuted,
-  Singular,
-  Elimination,
-  to-last,
-  top-place,
-  Eta,
-  Is-elimination,
-}
+use Rattle.pattern.specs.Verdict.{size, row-at, col-at, old-place, c-place, Old, spiked-columns, Spike, Taken, Permuted, Singular, Elimination, to-last, top-place, Eta, Is-elimination}
 use Rattle.pattern.proofs.Computed.{whole-judged}
 use Rattle.pattern.proofs.Finding.{place-at, place-of}
 use Rattle.pattern.proofs.Greatest.{greatest-same}
@@ -49,13 +32,12 @@ use Rattle.pattern.proofs.Verdicts.{old-sound, spiked, bump-true}
 use Rattle.register.specs.Checks.{Call}
 use Rattle.register.specs.Held.{over}
 use Rattle.register.specs.Judge.{Judgeable, Judges}
-use Rattle.register.specs.Lent.{columns, rows}
-use Rattle.register.specs.Limits.{max-size, max-mark}
-use Rattle.register.specs.Order.{Placed}
+use Rattle.register.specs.Lent.{rows}
+use Rattle.register.specs.Limits.{max-mark}
 use Rattle.register.specs.Peel.{Peeled}
 use Rattle.register.specs.Reach.{By-rows, Reached, Rows-at}
 use Rattle.register.specs.Replace.{asked}
-use Rattle.register.specs.Sets.{Of-list, Only-below}
+use Rattle.register.specs.Sets.{Of-list}
 use Rattle.register.specs.declared.Judgment.the-variants as judgment
 use Rattle.register.proofs.Calls.{call-size, call-judged}
 use Rattle.register.proofs.Exchanged.{call-place}

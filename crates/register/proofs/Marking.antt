@@ -1,6 +1,6 @@
 -- Marks set one by one: where the numbers of a list are marked, or the places of these. Rests on specs/Sets.antt and
 -- specs/Reach.antt.
-use mathlib.Core.Bool.{Bool, true, false}
+use mathlib.Core.Bool.{Bool, false}
 use mathlib.Core.List.{List, [], _∷_, _++_}
 use mathlib.Core.Logic.{_≢_, _⊎_, inl, inr, ⊎-elim, _↔_}
 use mathlib.Core.Path.{_≡_, refl, sym, ap, _∙_, subst}

@@ -1,48 +1,21 @@
 -- Entries moved within a list, up or down, and starts raised: where each begins, and one turn.
--- Rests on specs/Store.antt, Between.antt, Puts.antt and Turns.antt.
-use mathlib.Core.Bool.{Bool, true, false, cond}
+-- Rests on specs/Store.antt, Between.antt, Puts.antt, Turns.antt and Without.antt.
 use mathlib.Core.List.{List, [], _∷_, _++_, append-nil}
 use mathlib.Core.Logic.{_≢_, ⊎-elim}
 use mathlib.Core.Path.{_≡_, refl, sym, ap, ap₂, _∙_}
 use Prim.Native.Nat.{ℕ, _+_, _≤_, _<_}
 use native.Mathlib.Omega.{arith}
-use lib.Dec.{eqb}
 use lib.ListN.{length, set, length-set, length-append}
 use lib.Seq.{getD-set-same, getD-set-other}
 use Rattle.pattern.specs.Places.{at}
 use Rattle.pattern.proofs.Search.{last-or}
-use Rattle.pattern.proofs.Tests.{choose-same, choose-other}
 use Rattle.register.specs.Held.{put}
 use Rattle.register.specs.Listing.{between}
 use Rattle.register.specs.Store.{without, Raised}
 use Rattle.register.proofs.Between.{between-none, between-first, between-more, between-length}
 use Rattle.register.proofs.Puts.{put-none, put-more, put-front, put-before, put-rest}
 use Rattle.register.proofs.Turns.{kept-all, kept-set}
-
--- ---- The numbers other than `r`
-
-without-here : (r x : ℕ) (l : List ℕ) → x ≡ r → without r (x ∷ l) ≡ without r l
-without-here r x l = choose-same x r (without r l) (x ∷ without r l)
-
-without-other : (r x : ℕ) (l : List ℕ) → x ≢ r → without r (x ∷ l) ≡ x ∷ without r l
-without-other r x l = choose-other x r (without r l) (x ∷ without r l)
-
-without-append : (r : ℕ) (k l : List ℕ) → without r (k ++ l) ≡ without r k ++ without r l
-without-append r [] l = refl
-without-append r (x ∷ k) l = go (eqb x r) (without-append r k l)
-  where
-    go : (b : Bool) → without r (k ++ l) ≡ without r k ++ without r l
-        → cond b (without r (k ++ l)) (x ∷ without r (k ++ l)) ≡ cond b (without r k) (x ∷ without r k) ++ without r l
-    go true e = e
-    go false e = ap (λ (j : List ℕ). x ∷ j) e
-
-pub without-few : (r : ℕ) (l : List ℕ) → length (without r l) ≤ length l
-without-few r [] = omega arith
-without-few r (x ∷ l) = go (eqb x r) (without-few r l)
-  where
-    go : (b : Bool) → length (without r l) ≤ length l → length (cond b (without r l) (x ∷ without r l)) ≤ length (x ∷ l)
-    go true h = omega arith
-    go false h = omega arith
+use Rattle.register.proofs.Without.{without-struck, without-kept, without-append, without-few}
 
 -- ---- Down
 
@@ -78,7 +51,7 @@ module _ (l : List ℕ) (from into r : ℕ) where
 
     pub down-skip : at l′ k ≡ r → Down l from into r l′ end (k + 1)
     down-skip e =
-        let s : without r (between from (k + 1) l) ≡ gone = step ∙ ap (λ (j : List ℕ). gone ++ j) (without-here r (at l k) [] (sym down-at ∙ e)) ∙ append-nil gone in
+        let s : without r (between from (k + 1) l) ≡ gone = step ∙ ap (λ (j : List ℕ). gone ++ j) (without-struck r (at l k) [] (sym down-at ∙ e)) ∙ append-nil gone in
         record {
           long = D .long;
           ends = D .ends ∙ ap (λ (j : List ℕ). into + length j) (sym s);
@@ -89,7 +62,7 @@ module _ (l : List ℕ) (from into r : ℕ) where
     down-more v ev n =
         let is : v ≡ at l k = ev ∙ down-at in
         let s : without r (between from (k + 1) l) ≡ gone ++ (v ∷ []) =
-        step ∙ ap (λ (x : ℕ). gone ++ without r (x ∷ [])) (sym is) ∙ ap (λ (j : List ℕ). gone ++ j) (without-other r v [] n) in
+        step ∙ ap (λ (x : ℕ). gone ++ without r (x ∷ [])) (sym is) ∙ ap (λ (j : List ℕ). gone ++ j) (without-kept r v [] n) in
         record {
           long = length-set l′ end v ∙ D .long;
           ends = omega (arith, D .ends, ap length s, length-append gone (v ∷ []));

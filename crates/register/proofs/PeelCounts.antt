@@ -14,7 +14,7 @@ use Rattle.pattern.specs.Places.{at}
 use Rattle.pattern.specs.Rising.{Rising}
 use Rattle.pattern.specs.Series.{tally}
 use Rattle.pattern.proofs.Search.{None, Found, find, last-or}
-use Rattle.pattern.proofs.Tallies.{tally-next, tally-more, tally-zero, tally-same}
+use Rattle.pattern.proofs.Tallies.{tally-next, tally-more, tally-zero, tally-same, tally-one}
 use Rattle.pattern.proofs.Tests.{T-true, T-false, eq-eqb, has-among, among-has}
 use Rattle.register.specs.Limits.{max-size}
 use Rattle.register.specs.Peel.{unplaced, No-one, Next-one, Strikes, Struck}
@@ -22,17 +22,6 @@ use Rattle.register.specs.Sets.{one}
 use Rattle.register.proofs.Rises.{rising-once}
 
 -- ---- Sums of ones
-
-module _ (f g : ℕ → ℕ) where
-  -- One of the numbers below `n` is one more.
-  tally-less : (n i : ℕ) → i < n → g i ≡ f i + 1 → ((x : ℕ) → x < n → x ≢ i → g x ≡ f x) → tally g n ≡ tally f n + 1
-  unfolding tally
-  tally-less zero i h e o = absurd (omega arith)
-  tally-less (suc n) i h e o =
-      ⊎-elim
-      (λ u. omega (arith, tally-less n i u e (λ x b. o x (omega arith)), o n (omega arith) (λ z. omega arith)))
-      (λ z. omega (arith, ap f z, ap g z, tally-same f g n (λ x u. sym (o x (omega arith) (λ w. omega arith)))))
-      (last-or n i h)
 
 tally-ones : (f : ℕ → ℕ) (n : ℕ) → ((i : ℕ) → i < n → f i ≡ 1) → tally f n ≡ n
 unfolding tally
@@ -84,7 +73,7 @@ module _ (places : List ℕ) (x n : ℕ) (h : x < length places) (e : at places 
   unplaced-less l R t =
       let a = has-among l x t in
       let z : at (set places x n) (at l (a .0)) ≡ n = ap (at (set places x n)) (a .2) ∙ getD-set-same places x n 0 h in
-      tally-less (λ k. counts-for (set places x n) (at l k)) (λ k. counts-for places (at l k)) (length l) (a .0) (a .1)
+      tally-one (λ k. counts-for (set places x n) (at l k)) (λ k. counts-for places (at l k)) (length l) (a .0) (a .1)
       (omega (arith, for-one places (at l (a .0)) (ap (at places) (a .2) ∙ e), for-none (set places x n) (at l (a .0)) (λ w. omega arith)))
       (λ k u d. ap (λ (p : ℕ). one (eqb p max-size)) (sym (getD-set-other places x (at l k) n 0 (λ w. d (rising-once R .once k (a .0) u (a .1) (w ∙ sym (a .2)))))))
 

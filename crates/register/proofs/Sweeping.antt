@@ -1,27 +1,26 @@
 -- Going through a set of numbers by the next marked one; the sweep that finds the reached places; and the rows at marked
 -- places. Rests on specs/Reach.antt, Marking.antt and `pattern`.
-use mathlib.Core.Bool.{Bool, true, false}
+use mathlib.Core.Bool.{Bool, false}
 use mathlib.Core.List.{List}
-use mathlib.Core.Logic.{_≢_, _⊎_, inl, inr, ⊎-elim, _↔_}
+use mathlib.Core.Logic.{_≢_, _⊎_, inl, inr, ⊎-elim}
 use mathlib.Core.Path.{_≡_, refl, sym, ap, _∙_, subst}
 use Prim.Native.Nat.{ℕ, _+_, _≤_, _<_}
 use native.Mathlib.Decide.{ℕ-discrete, decLt}
 use native.Mathlib.Omega.{arith}
 use lib.Dec.{T}
-use lib.ListN.{length}
-use Rattle.pattern.specs.Order.{Sound, Paired}
-use Rattle.pattern.specs.Pattern.{has, column, Entry}
+use Rattle.pattern.specs.Order.{Sound}
+use Rattle.pattern.specs.Pattern.{has, column}
 use Rattle.pattern.specs.Places.{at, place}
 use Rattle.pattern.specs.Reach.{Reach, itself, onward}
 use Rattle.pattern.proofs.Finding.{place-at, place-of}
-use Rattle.pattern.proofs.Tests.{T-dec, T-false}
-use Rattle.pattern.proofs.Turning.{column-below, row-below}
+use Rattle.pattern.proofs.Tests.{T-false}
+use Rattle.pattern.proofs.Turning.{row-below}
 use Rattle.register.specs.Limits.{max-size, max-mark}
-use Rattle.register.specs.Listing.{part, parts, Good}
+use Rattle.register.specs.Listing.{parts, Good}
 use Rattle.register.specs.Order.{Placed}
 use Rattle.register.specs.Reach.{By-rows, With-places, Reached, Rows-at}
 use Rattle.register.specs.Sets.{With, First, Only-below}
-use Rattle.register.proofs.Listings.{part-is, good-columns}
+use Rattle.register.proofs.Listings.{good-columns}
 
 -- ---- By the next marked number
 

@@ -24,7 +24,7 @@ use Rattle.register.specs.Store.{without, left, emptied}
 use Rattle.register.proofs.Between.{between-length, between-same}
 use Rattle.register.proofs.Holding.{over-rest}
 use Rattle.register.proofs.Listings.{parts-start, part-is, good-within, start-small}
-use Rattle.register.proofs.Moves.{without-few}
+use Rattle.register.proofs.Without.{without-few}
 use Rattle.register.proofs.Puts.{put-none, put-over, put-more, put-length}
 
 -- Of the columns before column `k` of the `m` parts `P`, what is to be left stands before place `end`; the entries of

@@ -12,7 +12,7 @@ ghost use mathlib.Core.Path.{_≡_};
 ghost use Prim.Native.Nat.{_≤_, _<_};
 ghost use lib.ListN.{length};
 ghost use Rattle.register.specs.Checks.{Contents, First-fault, call, new-total, Fits, Column-checks, Call-fault};
-ghost use Rattle.register.specs.Lent.{lists, Sized, Long, Formed};
+ghost use Rattle.register.specs.Lent.{lists, Sized, Long};
 ghost use Rattle.register.specs.Limits.{max-size};
 ghost use Rattle.register.specs.Listing.{Starts};
 ghost use Rattle.register.specs.Reply.{fault};

@@ -10,7 +10,6 @@ use crate::peel::peel;
 use crate::reach::met;
 use crate::reach::reach;
 use crate::reach::rows_at;
-use crate::wide::wide;
 ghost use mathlib.Core.Path.{_≡_};
 ghost use Prim.Native.Nat.{ℕ, _+_, _-_, _≤_, _<_};
 ghost use lib.ListN.{length};

@@ -4,7 +4,6 @@ use crate::Register;
 use crate::listing::part;
 use crate::marks::Marks;
 use crate::wide::wide;
-ghost use mathlib.Core.Path.{_≡_};
 ghost use Prim.Native.Nat.{ℕ, _≤_, _<_};
 ghost use lib.Dec.{T};
 ghost use lib.ListN.{length};

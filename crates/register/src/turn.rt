@@ -4,7 +4,7 @@ use crate::Register;
 use crate::listing::part;
 use crate::wide::wide;
 ghost use mathlib.Core.Path.{_≡_};
-ghost use Prim.Native.Nat.{ℕ, _+_, _≤_, _<_};
+ghost use Prim.Native.Nat.{_+_, _≤_, _<_};
 ghost use lib.ListN.{length};
 ghost use Rattle.pattern.specs.Flat.{start-of};
 ghost use Rattle.pattern.specs.Places.{at};

@@ -1,8 +1,8 @@
 -- `lay_cols`: the columns below y stand at the greatest places of their rows.
-use mathlib.Core.Path.{_≡_, refl, sym, ap, _∙_, subst}
-use Prim.Native.Nat.{ℕ, _+_, _-_, _≤_, _<_}
+use mathlib.Core.Path.{_≡_, ap, _∙_}
+use Prim.Native.Nat.{ℕ, _-_, _≤_, _<_}
 use native.Mathlib.Omega.{arith}
-use lib.ListN.{length, getD, take, drop, set, length-set}
+use lib.ListN.{length}
 use borrow.Author.Needs.{needs}
 use Rattle.register.proofs.Listings.{good-within}
 use Rattle.pattern.proofs.Rises.{rising-below}
@@ -14,10 +14,6 @@ use Rattle.pattern.specs.Series.{greatest}
 use Rattle.pattern.specs.Places.{at}
 use Rattle.register.proofs.arrange.lay_cols.Statement.{statement}
 use Rattle.register.proofs.arrange.lay_cols.Tie as tie
-use Rattle.register.proofs.arrange.lay_cols.Reads as reads
-use Rattle.register.proofs.arrange.lay_cols.Lts as lts
-use Rattle.register.proofs.listing.part.Reads as part-reads
-use Rattle.register.proofs.order.top_place.Reads as top-place-reads
 
 abbrev Inv-loop : tie.InvT-loop
 Inv-loop m cs cr places cols₀ y₀ cols y = (y ≤ m) × Laying-at m (λ x. greatest (at places) (part cs cr x)) y cols₀ cols
@@ -56,9 +52,6 @@ module _ (c : tie.After-top-place Inv-loop μ-loop) where
 loop-holds : tie.Need-loop-holds Inv-loop μ-loop
 loop-holds c = (omega arith, laying-at-none)
 
-cast-cols : tie.Need-cast-cols Inv-loop μ-loop
-cast-cols c = search needs
-
 part-requires : tie.Need-part-requires Inv-loop μ-loop
 part-requires c κs = let l = c .before in let s = l .before .before .before .before in omega (arith, s .pre .0 .room, good-within (s .pre .0) (l .loop .y) (omega arith))
 
@@ -71,17 +64,8 @@ mul-cols c = omega (arith, place-in c)
 slice-write-cols : tie.Need-slice-write-cols Inv-loop μ-loop
 slice-write-cols c = omega (arith, place-in c, head (c .before) .loop .inv .1 .kept .long, begun (c .before) .pre .1)
 
-add-y : tie.Need-add-y Inv-loop μ-loop
-add-y c = search needs
-
-loop-less : tie.Need-loop-less Inv-loop μ-loop
-loop-less c = search needs
-
 loop-again : tie.Need-loop-again Inv-loop μ-loop
 loop-again c = (omega arith, laying-at-more (omega arith) (top-is-greatest c) (place-in c) (begun (c .before) .pre .1) (head (c .before) .loop .inv .1))
-
-same-length : tie.Need-same-length Inv-loop μ-loop
-same-length c = search needs
 
 returns : tie.Need-returns Inv-loop μ-loop
 returns c = λ row order e L S.
@@ -97,13 +81,13 @@ lay-cols-spec =
     Inv-loop
     μ-loop
     loop-holds
-    cast-cols
+    (λ c. search needs)
     part-requires
     top-place-requires
     mul-cols
     slice-write-cols
-    add-y
-    loop-less
+    (λ c. search needs)
+    (λ c. search needs)
     loop-again
-    same-length
+    (λ c. search needs)
     returns)

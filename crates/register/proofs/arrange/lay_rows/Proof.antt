@@ -1,16 +1,12 @@
 -- `lay_rows`: the rows below x stand at their places.
-use mathlib.Core.Path.{_≡_, refl, sym, ap, _∙_, subst}
-use Prim.Native.Nat.{ℕ, _+_, _-_, _≤_, _<_}
+use mathlib.Core.Path.{_≡_}
+use Prim.Native.Nat.{_-_, _≤_, _<_}
 use native.Mathlib.Omega.{arith}
-use lib.ListN.{length, getD, take, drop, set, length-set}
 use borrow.Author.Needs.{needs}
 use Rattle.register.proofs.Arranging.{Laying-at, laying-at-none, laying-at-more, laying-at-all, rows-place}
 use Rattle.pattern.specs.Places.{at}
 use Rattle.register.proofs.arrange.lay_rows.Statement.{statement}
 use Rattle.register.proofs.arrange.lay_rows.Tie as tie
-use Rattle.register.proofs.arrange.lay_rows.Reads as reads
-use Rattle.register.proofs.arrange.lay_rows.Lts as lts
-use Rattle.register.proofs.wide.wide.Reads as wide-reads
 
 abbrev Inv-loop : tie.InvT-loop
 Inv-loop m places rows₀ x₀ rows x = (x ≤ m) × Laying-at m (at places) x rows₀ rows
@@ -32,35 +28,14 @@ module _ (c : tie.After-wide Inv-loop μ-loop) where
 loop-holds : tie.Need-loop-holds Inv-loop μ-loop
 loop-holds c = (omega arith, laying-at-none)
 
-cast-rows : tie.Need-cast-rows Inv-loop μ-loop
-cast-rows c = search needs
-
-mul-wide : tie.Need-mul-wide Inv-loop μ-loop
-mul-wide c = search needs
-
-element-copy-out-wide : tie.Need-element-copy-out-wide Inv-loop μ-loop
-element-copy-out-wide c = search needs
-
-wide-requires : tie.Need-wide-requires Inv-loop μ-loop
-wide-requires c κs = search needs
-
 mul-rows : tie.Need-mul-rows Inv-loop μ-loop
 mul-rows c = omega (arith, place-in c)
 
 slice-write-rows : tie.Need-slice-write-rows Inv-loop μ-loop
 slice-write-rows c = omega (arith, place-in c, head c .loop .inv .1 .kept .long, begun c .pre .1)
 
-add-x : tie.Need-add-x Inv-loop μ-loop
-add-x c = search needs
-
-loop-less : tie.Need-loop-less Inv-loop μ-loop
-loop-less c = search needs
-
 loop-again : tie.Need-loop-again Inv-loop μ-loop
 loop-again c = (omega arith, laying-at-more (omega arith) (c .wide .ensures) (place-in c) (begun c .pre .1) (head c .loop .inv .1))
-
-same-length : tie.Need-same-length Inv-loop μ-loop
-same-length c = search needs
 
 returns : tie.Need-returns Inv-loop μ-loop
 returns c = λ order e L.
@@ -75,14 +50,14 @@ lay-rows-spec =
     Inv-loop
     μ-loop
     loop-holds
-    cast-rows
-    mul-wide
-    element-copy-out-wide
-    wide-requires
+    (λ c. search needs)
+    (λ c. search needs)
+    (λ c. search needs)
+    (λ c κs. search needs)
     mul-rows
     slice-write-rows
-    add-x
-    loop-less
+    (λ c. search needs)
+    (λ c. search needs)
     loop-again
-    same-length
+    (λ c. search needs)
     returns)

@@ -1,8 +1,6 @@
 -- `check_call`: a fault of the register, or of the new column.
-use mathlib.Core.Path.{_≡_, refl, sym, ap, _∙_, subst}
-use Prim.Native.Nat.{ℕ, _+_, _-_, _≤_, _<_}
+use mathlib.Core.Path.{refl}
 use native.Mathlib.Omega.{arith}
-use lib.ListN.{length, getD, take, drop, set, length-set}
 use borrow.Author.Needs.{needs}
 use Rattle.register.proofs.Soundness.{fault-none}
 use Rattle.register.proofs.Calls.{number-some, register-fault, column-fault}
@@ -11,10 +9,6 @@ use Rattle.register.specs.Checks.{Call, call}
 use Rattle.pattern.specs.Ladder.{fails, holds}
 use Rattle.register.proofs.check.check_call.Statement.{statement}
 use Rattle.register.proofs.check.check_call.Tie as tie
-use Rattle.register.proofs.check.check_call.Reads as reads
-use Rattle.register.proofs.check.check_call.Lts as lts
-use Rattle.register.proofs.check.check.Reads as check-reads
-use Rattle.register.proofs.check.column_fault.Reads as column-fault-reads
 
 -- No check of the register refused it.
 module _ (c : tie.After-enum-told) where
@@ -36,20 +30,11 @@ returns c = fails (λ p. omega arith) refl
 returns-2 : tie.Need-returns-2
 returns-2 c = holds (omega arith) (fails (λ p. omega (arith, p .1)) refl)
 
-check-requires : tie.Need-check-requires
-check-requires c κs = search needs
-
-enum-told : tie.Need-enum-told
-enum-told c = search needs
-
 column-fault-requires : tie.Need-column-fault-requires
 column-fault-requires c κs = let S = sound c in (S .sized .1, S .long .columns-fit .starts-long, S .formed .columns-formed .starts-right)
 
 returns-3 : tie.Need-returns-3
 returns-3 c = column-fault (asked (c .before)) (sound (c .before)) (omega arith) (c .column-fault .ensures)
-
-enum-told-2 : tie.Need-enum-told-2
-enum-told-2 c = search needs
 
 returns-4 : tie.Need-returns-4
 returns-4 c =
@@ -63,9 +48,9 @@ check-call-spec =
     (tie.spec
     returns
     returns-2
-    check-requires
-    enum-told
+    (λ c κs. search needs)
+    (λ c. search needs)
     column-fault-requires
     returns-3
-    enum-told-2
+    (λ c. search needs)
     returns-4)

@@ -1,24 +1,15 @@
 -- `column_fault`: each check stands behind those before it.
-use mathlib.Core.Path.{_≡_, refl, sym, ap, _∙_, subst}
-use Prim.Native.Nat.{ℕ, _+_, _-_, _≤_, _<_}
+use mathlib.Core.Path.{refl}
 use native.Mathlib.Omega.{arith}
-use lib.ListN.{length, getD, take, drop, set, length-set}
 use borrow.Author.Needs.{needs}
 use Rattle.register.proofs.Answers.{refuted, shown}
 use Rattle.register.proofs.Rises.{rising-few}
 use Rattle.pattern.specs.Ladder.{fails, holds}
 use Rattle.register.proofs.check.column_fault.Statement.{statement}
 use Rattle.register.proofs.check.column_fault.Tie as tie
-use Rattle.register.proofs.check.column_fault.Reads as reads
-use Rattle.register.proofs.check.column_fault.Lts as lts
-use Rattle.register.proofs.check.fits.Reads as fits-reads
-use Rattle.register.proofs.listing.rising.Reads as rising-reads
 
 returns : tie.Need-returns
 returns c = fails (λ p. omega arith) refl
-
-rising-requires : tie.Need-rising-requires
-rising-requires c κs = search needs
 
 returns-2 : tie.Need-returns-2
 returns-2 c = holds (omega arith) (fails (refuted (c .before .rising .ensures) (c .if2 .taken)) refl)
@@ -36,4 +27,4 @@ returns-4 c = holds (omega arith) (holds (shown (c .before .before .before .risi
 
 pub column-fault-spec : {M : Type 1} → statement M
 column-fault-spec =
-    tie.close (tie.spec returns rising-requires returns-2 fits-requires returns-3 returns-4)
+    tie.close (tie.spec returns (λ c κs. search needs) returns-2 fits-requires returns-3 returns-4)

@@ -1,9 +1,7 @@
 -- `bump`: the greatest place in the scratch list is that of the order.
-use mathlib.Core.Path.{_≡_, refl, sym, ap, _∙_, subst}
-use Prim.Native.Nat.{ℕ, _+_, _-_, _≤_, _<_}
+use mathlib.Core.Path.{_≡_, refl, _∙_}
+use Prim.Native.Nat.{_≤_}
 use native.Mathlib.Omega.{arith}
-use lib.ListN.{length, getD, take, drop, set, length-set}
-use borrow.Author.Needs.{needs}
 use Rattle.register.proofs.Answers.{surely}
 use Rattle.register.proofs.Orders.{top-is, top-few}
 use Rattle.pattern.specs.Verdict.{top-place}
@@ -11,10 +9,6 @@ use Rattle.pattern.specs.Places.{at}
 use lib.ListN.{getD-replicate}
 use Rattle.register.proofs.judge.bump.Statement.{statement}
 use Rattle.register.proofs.judge.bump.Tie as tie
-use Rattle.register.proofs.judge.bump.Reads as reads
-use Rattle.register.proofs.judge.bump.Lts as lts
-use Rattle.register.proofs.order.enter.Reads as enter-reads
-use Rattle.register.proofs.order.top_place.Reads as top-place-reads
 
 -- The greatest place in the scratch list is that of the order; it is at most the size.
 top : (c : tie.After-top-place)

@@ -1,8 +1,7 @@
 -- `marks_of`: the numbers before place k are marked.
-use mathlib.Core.Path.{_≡_, refl, sym, ap, _∙_, subst}
-use Prim.Native.Nat.{ℕ, _+_, _-_, _≤_, _<_}
+use Prim.Native.Nat.{_-_, _≤_}
 use native.Mathlib.Omega.{arith}
-use lib.ListN.{length, getD, take, drop, set, length-set}
+use lib.ListN.{length, take}
 use borrow.Author.Needs.{needs}
 use Rattle.register.proofs.Unmarked.{unmarked-none}
 use Rattle.register.proofs.Marking.{marking-none, marking-more, marking-all, marked-list}
@@ -10,11 +9,6 @@ use Rattle.register.specs.Reach.{With-places}
 use Rattle.register.specs.Marks.{marked, unmarked}
 use Rattle.register.proofs.marks.marks_of.Statement.{statement}
 use Rattle.register.proofs.marks.marks_of.Tie as tie
-use Rattle.register.proofs.marks.marks_of.Reads as reads
-use Rattle.register.proofs.marks.marks_of.Lts as lts
-use Rattle.register.proofs.marks.Marks.none.Reads as none-reads
-use Rattle.register.proofs.marks.Marks.with.Reads as with-reads
-use Rattle.register.proofs.wide.wide.Reads as wide-reads
 
 abbrev Inv-loop : tie.InvT-loop
 Inv-loop numbers marks₀ k₀ marks k = (k ≤ length numbers) × With-places (marked unmarked) (marked marks) (λ x. x) (take k numbers)
@@ -22,29 +16,11 @@ Inv-loop numbers marks₀ k₀ marks k = (k ≤ length numbers) × With-places (
 abbrev μ-loop : tie.MeasureT-loop
 μ-loop numbers marks₀ k₀ marks k = length numbers - k
 
-none-requires : tie.Need-none-requires Inv-loop μ-loop
-none-requires c κs = search needs
-
 loop-holds : tie.Need-loop-holds Inv-loop μ-loop
 loop-holds c = (omega arith, rw (c .none .ensures) (marking-none (λ x. x) (c .before .before .args .numbers .now)))
 
-mul-wide : tie.Need-mul-wide Inv-loop μ-loop
-mul-wide c = search needs
-
-shared-slice-read-wide : tie.Need-shared-slice-read-wide Inv-loop μ-loop
-shared-slice-read-wide c = search needs
-
-wide-requires : tie.Need-wide-requires Inv-loop μ-loop
-wide-requires c κs = search needs
-
 with-requires : tie.Need-with-requires Inv-loop μ-loop
 with-requires c κs = let l = c .before .before .before in omega (arith, l .before .before .before .pre (l .loop .k) (omega arith), c .wide .ensures)
-
-add-k : tie.Need-add-k Inv-loop μ-loop
-add-k c = search needs
-
-loop-less : tie.Need-loop-less Inv-loop μ-loop
-loop-less c = search needs
 
 loop-again : tie.Need-loop-again Inv-loop μ-loop
 loop-again c =
@@ -64,13 +40,13 @@ marks-of-spec =
     (tie.spec
     Inv-loop
     μ-loop
-    none-requires
+    (λ c κs. search needs)
     loop-holds
-    mul-wide
-    shared-slice-read-wide
-    wide-requires
+    (λ c. search needs)
+    (λ c. search needs)
+    (λ c κs. search needs)
     with-requires
-    add-k
-    loop-less
+    (λ c. search needs)
+    (λ c. search needs)
     loop-again
     returns)

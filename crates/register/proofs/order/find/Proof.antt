@@ -1,17 +1,13 @@
 -- `find`: x is not among the numbers before place t.
-use mathlib.Core.Path.{_≡_, refl, sym, ap, _∙_, subst}
-use Prim.Native.Nat.{ℕ, _+_, _-_, _≤_, _<_}
+use mathlib.Core.Path.{sym, _∙_}
+use Prim.Native.Nat.{_-_, _≤_}
 use native.Mathlib.Omega.{arith}
-use lib.ListN.{length, getD, take, drop, set, length-set}
 use borrow.Author.Needs.{needs}
 use Rattle.pattern.proofs.Finding.{place-first, place-none}
 use Rattle.pattern.specs.Places.{at, Outside}
 use borrow.Author.Count.{below-none, below-more}
 use Rattle.register.proofs.order.find.Statement.{statement}
 use Rattle.register.proofs.order.find.Tie as tie
-use Rattle.register.proofs.order.find.Reads as reads
-use Rattle.register.proofs.order.find.Lts as lts
-use Rattle.register.proofs.wide.wide.Reads as wide-reads
 
 abbrev Inv-loop : tie.InvT-loop
 Inv-loop m numbers x t₀ t = (t ≤ m) × Outside (at numbers) t x
@@ -22,26 +18,11 @@ abbrev μ-loop : tie.MeasureT-loop
 loop-holds : tie.Need-loop-holds Inv-loop μ-loop
 loop-holds c = (omega arith, below-none _)
 
-mul-wide : tie.Need-mul-wide Inv-loop μ-loop
-mul-wide c = search needs
-
-shared-slice-read-wide : tie.Need-shared-slice-read-wide Inv-loop μ-loop
-shared-slice-read-wide c = search needs
-
-wide-requires : tie.Need-wide-requires Inv-loop μ-loop
-wide-requires c κs = search needs
-
 returns : tie.Need-returns Inv-loop μ-loop
 returns c =
     let l = c .before .before .before .before in
     let s = l .before .before .args in
     sym (place-first (at (s .numbers .now)) (s .m) (s .x) (l .loop .t) (omega arith) (sym (c .before .wide .ensures) ∙ c .if1 .taken) (l .loop .inv .1))
-
-add-t : tie.Need-add-t Inv-loop μ-loop
-add-t c = search needs
-
-loop-less : tie.Need-loop-less Inv-loop μ-loop
-loop-less c = search needs
 
 loop-again : tie.Need-loop-again Inv-loop μ-loop
 loop-again c = (omega arith, below-more _ _ (c .before .before .before .before .loop .inv .1) (λ e. c .if1 .left (c .before .wide .ensures ∙ e)))
@@ -59,11 +40,11 @@ find-spec =
     Inv-loop
     μ-loop
     loop-holds
-    mul-wide
-    shared-slice-read-wide
-    wide-requires
+    (λ c. search needs)
+    (λ c. search needs)
+    (λ c κs. search needs)
     returns
-    add-t
-    loop-less
+    (λ c. search needs)
+    (λ c. search needs)
     loop-again
     returns-2)

@@ -1,8 +1,8 @@
 -- `mark_row`: the places of the columns before k are marked.
-use mathlib.Core.Path.{_≡_, refl, sym, ap, _∙_, subst}
-use Prim.Native.Nat.{ℕ, _+_, _-_, _≤_, _<_}
+use mathlib.Core.Path.{ap, _∙_}
+use Prim.Native.Nat.{_-_, _≤_}
 use native.Mathlib.Omega.{arith}
-use lib.ListN.{length, getD, take, drop, set, length-set}
+use lib.ListN.{length, take}
 use borrow.Author.Needs.{needs}
 use Rattle.register.proofs.Marking.{marking-none, marking-more, marking-all}
 use Rattle.register.specs.Reach.{With-places}
@@ -10,10 +10,6 @@ use Rattle.register.specs.Marks.{marked}
 use Rattle.pattern.specs.Places.{at}
 use Rattle.register.proofs.reach.mark_row.Statement.{statement}
 use Rattle.register.proofs.reach.mark_row.Tie as tie
-use Rattle.register.proofs.reach.mark_row.Reads as reads
-use Rattle.register.proofs.reach.mark_row.Lts as lts
-use Rattle.register.proofs.marks.Marks.with.Reads as with-reads
-use Rattle.register.proofs.wide.wide.Reads as wide-reads
 
 abbrev Inv-loop : tie.InvT-loop
 Inv-loop cols old all₀ k₀ all k = (k ≤ length cols) × With-places (marked all₀) (marked all) (at old) (take k cols)
@@ -24,35 +20,17 @@ abbrev μ-loop : tie.MeasureT-loop
 loop-holds : tie.Need-loop-holds Inv-loop μ-loop
 loop-holds c = (omega arith, marking-none (at (c .before .args .old .now)) (c .before .args .cols .now))
 
-mul-wide : tie.Need-mul-wide Inv-loop μ-loop
-mul-wide c = search needs
-
-shared-slice-read-wide : tie.Need-shared-slice-read-wide Inv-loop μ-loop
-shared-slice-read-wide c = search needs
-
-wide-requires : tie.Need-wide-requires Inv-loop μ-loop
-wide-requires c κs = search needs
-
 mul-wide-2 : tie.Need-mul-wide-2 Inv-loop μ-loop
 mul-wide-2 c = let l = c .before .before .before in omega (arith, c .wide .ensures, l .before .before .pre (l .loop .k) (omega arith) .0)
 
 element-copy-out-wide : tie.Need-element-copy-out-wide Inv-loop μ-loop
 element-copy-out-wide c = let l = c .before .before .before in omega (arith, c .wide .ensures, l .before .before .pre (l .loop .k) (omega arith) .0)
 
-wide-requires-2 : tie.Need-wide-requires-2 Inv-loop μ-loop
-wide-requires-2 c κs = tt
-
 with-requires : tie.Need-with-requires Inv-loop μ-loop
 with-requires c κs =
     let l = c .before .before .before .before .before in
     let old = l .before .before .args .old .now in
     omega (arith, c .wide2 .ensures, ap (at old) (c .before .before .wide .ensures), l .before .before .pre (l .loop .k) (omega arith) .1)
-
-add-k : tie.Need-add-k Inv-loop μ-loop
-add-k c = search needs
-
-loop-less : tie.Need-loop-less Inv-loop μ-loop
-loop-less c = search needs
 
 loop-again : tie.Need-loop-again Inv-loop μ-loop
 loop-again c =
@@ -74,14 +52,14 @@ mark-row-spec =
     Inv-loop
     μ-loop
     loop-holds
-    mul-wide
-    shared-slice-read-wide
-    wide-requires
+    (λ c. search needs)
+    (λ c. search needs)
+    (λ c κs. search needs)
     mul-wide-2
     element-copy-out-wide
-    wide-requires-2
+    (λ c κs. tt)
     with-requires
-    add-k
-    loop-less
+    (λ c. search needs)
+    (λ c. search needs)
     loop-again
     returns)

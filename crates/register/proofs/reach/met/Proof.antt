@@ -1,8 +1,8 @@
 -- `met`: no marked row stands at a marked place before t.
-use mathlib.Core.Path.{_≡_, refl, sym, ap, _∙_, subst}
-use Prim.Native.Nat.{ℕ, _+_, _-_, _≤_, _<_}
+use mathlib.Core.Path.{_≡_, sym, ap, _∙_, subst}
+use Prim.Native.Nat.{ℕ, _-_, _≤_, _<_}
 use native.Mathlib.Omega.{arith}
-use lib.ListN.{length, getD, take, drop, set, length-set}
+use lib.ListN.{length}
 use borrow.Author.Needs.{needs}
 use Rattle.register.proofs.Sweeping.{through-none, through-more}
 use Rattle.register.proofs.Answers.{told-yes, told-no}
@@ -13,11 +13,6 @@ use lib.Dec.{T}
 use mathlib.Core.Bool.{true}
 use Rattle.register.proofs.reach.met.Statement.{statement}
 use Rattle.register.proofs.reach.met.Tie as tie
-use Rattle.register.proofs.reach.met.Reads as reads
-use Rattle.register.proofs.reach.met.Lts as lts
-use Rattle.register.proofs.marks.Marks.has.Reads as has-reads
-use Rattle.register.proofs.marks.Marks.next.Reads as next-reads
-use Rattle.register.proofs.wide.wide.Reads as wide-reads
 
 abbrev Inv-loop : tie.InvT-loop
 Inv-loop or reached spike t₀ t = (t ≤ 1024) × (t < 1024 → marked reached t ≡ true) × ((k : ℕ) → k < t → T (marked reached k) → ¬ T (marked spike (at or k)))
@@ -29,22 +24,13 @@ abbrev μ-loop : tie.MeasureT-loop
 row-in : (c : tie.At-loop Inv-loop μ-loop) → c .loop .t < 1024 → (c .loop .t < length (c .before .before .before .args .or .now)) × (at (c .before .before .before .args .or .now) (c .loop .t) < 1024)
 row-in c h = c .before .before .before .pre (c .loop .t) h (true-T (c .loop .inv .1 h))
 
-next-requires : tie.Need-next-requires Inv-loop μ-loop
-next-requires c κs = search needs
-
 loop-holds : tie.Need-loop-holds Inv-loop μ-loop
 loop-holds c =
     let s = c .before .before .args in
     (c .next .ensures .within, c .next .ensures .there, through-none (λ k. ¬ T (marked (s .spike) (at (s .or .now) k))) (c .next .ensures))
 
-mul-wide : tie.Need-mul-wide Inv-loop μ-loop
-mul-wide c = search needs
-
 shared-slice-read-wide : tie.Need-shared-slice-read-wide Inv-loop μ-loop
 shared-slice-read-wide c = let l = c .before .before in omega (arith, row-in l (omega arith))
-
-wide-requires : tie.Need-wide-requires Inv-loop μ-loop
-wide-requires c κs = search needs
 
 has-requires : tie.Need-has-requires Inv-loop μ-loop
 has-requires c κs = let l = c .before .before .before in omega (arith, c .wide .ensures, row-in l (omega arith))
@@ -53,15 +39,6 @@ returns : tie.Need-returns Inv-loop μ-loop
 returns c =
     let l = c .before .before .before .before .before in
     told-yes (l .loop .t, omega arith, true-T (l .loop .inv .1 (omega arith)), true-T (sym (c .before .has .ensures ∙ ap (marked (l .before .before .before .args .spike)) (c .before .before .wide .ensures)) ∙ c .if1 .taken))
-
-add-next : tie.Need-add-next Inv-loop μ-loop
-add-next c = search needs
-
-next-requires-2 : tie.Need-next-requires-2 Inv-loop μ-loop
-next-requires-2 c κs = omega arith
-
-loop-less : tie.Need-loop-less Inv-loop μ-loop
-loop-less c = search needs
 
 loop-again : tie.Need-loop-again Inv-loop μ-loop
 loop-again c =
@@ -79,15 +56,15 @@ met-spec =
     (tie.spec
     Inv-loop
     μ-loop
-    next-requires
+    (λ c κs. search needs)
     loop-holds
-    mul-wide
+    (λ c. search needs)
     shared-slice-read-wide
-    wide-requires
+    (λ c κs. search needs)
     has-requires
     returns
-    add-next
-    next-requires-2
-    loop-less
+    (λ c. search needs)
+    (λ c κs. omega arith)
+    (λ c. search needs)
     loop-again
     returns-2)

@@ -1,8 +1,8 @@
 -- `reach`: the rows of the marked places before t have been gone through.
-use mathlib.Core.Path.{_≡_, refl, sym, ap, _∙_, subst}
-use Prim.Native.Nat.{ℕ, _+_, _-_, _≤_, _<_}
+use mathlib.Core.Path.{_≡_, ap, _∙_}
+use Prim.Native.Nat.{ℕ, _-_, _≤_, _<_}
 use native.Mathlib.Omega.{arith}
-use lib.ListN.{length, getD, take, drop, set, length-set}
+use lib.ListN.{length}
 use borrow.Author.Needs.{needs}
 use Rattle.pattern.specs.Pattern.{column}
 use mathlib.Core.List.{List}
@@ -19,14 +19,6 @@ use Rattle.pattern.specs.Order.{Sound}
 use mathlib.Core.Bool.{true}
 use Rattle.register.proofs.reach.reach.Statement.{statement}
 use Rattle.register.proofs.reach.reach.Tie as tie
-use Rattle.register.proofs.reach.reach.Reads as reads
-use Rattle.register.proofs.reach.reach.Lts as lts
-use Rattle.register.proofs.Register.empty_marks.Reads as empty-marks-reads
-use Rattle.register.proofs.listing.part.Reads as part-reads
-use Rattle.register.proofs.marks.Marks.next.Reads as next-reads
-use Rattle.register.proofs.marks.Marks.with.Reads as with-reads
-use Rattle.register.proofs.reach.mark_row.Reads as mark-row-reads
-use Rattle.register.proofs.wide.wide.Reads as wide-reads
 
 abbrev Inv-loop : tie.InvT-loop
 Inv-loop m rs rc or old p marks₀ t₀ marks t =
@@ -51,12 +43,6 @@ module _ (c : tie.After-part Inv-loop μ-loop) where
   is-row : c .part .result .now ≡ column (parts (begun .args .m) (begun .args .rs .now) (begun .args .rc .now)) (at (begun .args .or .now) (head .loop .t))
   is-row = good-column (begun .pre .0 .0) (at (begun .args .or .now) (head .loop .t)) row-in (c .part .ensures ∙ ap (part (begun .args .rs .now) (begun .args .rc .now)) (c .before .wide .ensures))
 
-empty-marks-requires : tie.Need-empty-marks-requires Inv-loop μ-loop
-empty-marks-requires c κs = search needs
-
-with-requires : tie.Need-with-requires Inv-loop μ-loop
-with-requires c κs = search needs
-
 loop-holds : tie.Need-loop-holds Inv-loop μ-loop
 loop-holds c =
     let s = c .before .before .before .before .before in (
@@ -64,15 +50,6 @@ loop-holds c =
       λ h. c .with .ensures .here,
       λ col L S. sweeping-none (s .pre .0 .0) L S (s .args .p) (s .pre .1 .0) (rw (c .before .empty-marks .ensures) unmarked-none) (c .with .ensures),
     )
-
-mul-wide : tie.Need-mul-wide Inv-loop μ-loop
-mul-wide c = search needs
-
-shared-slice-read-wide : tie.Need-shared-slice-read-wide Inv-loop μ-loop
-shared-slice-read-wide c = search needs
-
-wide-requires : tie.Need-wide-requires Inv-loop μ-loop
-wide-requires c κs = search needs
 
 part-requires : tie.Need-part-requires Inv-loop μ-loop
 part-requires c κs =
@@ -87,12 +64,6 @@ mark-row-requires c κs = λ k h.
     let y = good-columns (s .pre .0 .0) .rise (at (s .args .or .now) (head c .loop .t)) (row-in c) .below k (omega (arith, ap length (is-row c))) in
     let e = ap (λ (l : List ℕ). at l k) (is-row c) in
     omega (arith, y, e, s .pre .0 .0 .small, s .pre .1 .1 (at (c .part .result .now) k) (omega (arith, e, y)))
-
-add-next : tie.Need-add-next Inv-loop μ-loop
-add-next c = search needs
-
-next-requires : tie.Need-next-requires Inv-loop μ-loop
-next-requires c κs = search needs
 
 loop-less : tie.Need-loop-less Inv-loop μ-loop
 loop-less c = let F = c .next .ensures in omega (arith, F .after)
@@ -117,16 +88,16 @@ reach-spec =
     (tie.spec
     Inv-loop
     μ-loop
-    empty-marks-requires
-    with-requires
+    (λ c κs. search needs)
+    (λ c κs. search needs)
     loop-holds
-    mul-wide
-    shared-slice-read-wide
-    wide-requires
+    (λ c. search needs)
+    (λ c. search needs)
+    (λ c κs. search needs)
     part-requires
     mark-row-requires
-    add-next
-    next-requires
+    (λ c. search needs)
+    (λ c κs. search needs)
     loop-less
     loop-again
     returns)

@@ -1,8 +1,7 @@
 -- `rows_at`: the rows at the marked places before t, but p, are marked.
-use mathlib.Core.Path.{_≡_, refl, sym, ap, _∙_, subst}
-use Prim.Native.Nat.{ℕ, _+_, _-_, _≤_, _<_}
+use mathlib.Core.Path.{_≡_}
+use Prim.Native.Nat.{_-_, _≤_, _<_}
 use native.Mathlib.Omega.{arith}
-use lib.ListN.{length, getD, take, drop, set, length-set}
 use borrow.Author.Needs.{needs}
 use mathlib.Core.Logic.{⊎-elim}
 use Rattle.register.proofs.Unmarked.{unmarked-none}
@@ -13,12 +12,6 @@ use Rattle.pattern.specs.Places.{at}
 use mathlib.Core.Bool.{true}
 use Rattle.register.proofs.reach.rows_at.Statement.{statement}
 use Rattle.register.proofs.reach.rows_at.Tie as tie
-use Rattle.register.proofs.reach.rows_at.Reads as reads
-use Rattle.register.proofs.reach.rows_at.Lts as lts
-use Rattle.register.proofs.marks.Marks.next.Reads as next-reads
-use Rattle.register.proofs.marks.Marks.none.Reads as none-reads
-use Rattle.register.proofs.marks.Marks.with.Reads as with-reads
-use Rattle.register.proofs.wide.wide.Reads as wide-reads
 
 abbrev Inv-loop : tie.InvT-loop
 Inv-loop m or reached p rows₀ t₀ rows t = (t ≤ 1024) × (t < 1024 → marked reached t ≡ true) × Taking m (at or) p t (marked reached) (marked rows)
@@ -26,38 +19,17 @@ Inv-loop m or reached p rows₀ t₀ rows t = (t ≤ 1024) × (t < 1024 → mark
 abbrev μ-loop : tie.MeasureT-loop
 μ-loop m or reached p rows₀ t₀ rows t = m - t
 
-none-requires : tie.Need-none-requires Inv-loop μ-loop
-none-requires c κs = search needs
-
-next-requires : tie.Need-next-requires Inv-loop μ-loop
-next-requires c κs = search needs
-
 loop-holds : tie.Need-loop-holds Inv-loop μ-loop
 loop-holds c =
     let s = c .before .before .before in
     let F = c .next .ensures in
     (F .within, F .there, rw (c .before .none .ensures) (taking-none (s .pre .0) (s .pre .3) unmarked-none F))
 
-mul-wide : tie.Need-mul-wide Inv-loop μ-loop
-mul-wide c = search needs
-
-shared-slice-read-wide : tie.Need-shared-slice-read-wide Inv-loop μ-loop
-shared-slice-read-wide c = search needs
-
-wide-requires : tie.Need-wide-requires Inv-loop μ-loop
-wide-requires c κs = search needs
-
 with-requires : tie.Need-with-requires Inv-loop μ-loop
 with-requires c κs = let l = c .before .before .before .before in let s = l .before .before .before .before in omega (arith, c .wide .ensures, s .pre .0, s .pre .3 (l .loop .t) (omega arith))
 
-add-next : tie.Need-add-next Inv-loop μ-loop
-add-next c = search needs
-
 next-requires-2 : tie.Need-next-requires-2 Inv-loop μ-loop
 next-requires-2 c κs = let l = c .before .before in omega (arith, l .before .before .before .before .pre .0)
-
-loop-less : tie.Need-loop-less Inv-loop μ-loop
-loop-less c = search needs
 
 loop-again : tie.Need-loop-again Inv-loop μ-loop
 loop-again c =
@@ -81,15 +53,15 @@ rows-at-spec =
     (tie.spec
     Inv-loop
     μ-loop
-    none-requires
-    next-requires
+    (λ c κs. search needs)
+    (λ c κs. search needs)
     loop-holds
-    mul-wide
-    shared-slice-read-wide
-    wide-requires
+    (λ c. search needs)
+    (λ c. search needs)
+    (λ c κs. search needs)
     with-requires
-    add-next
+    (λ c. search needs)
     next-requires-2
-    loop-less
+    (λ c. search needs)
     loop-again
     returns)
