@@ -10,7 +10,7 @@ use Rattle.register.specs.Checks.{First-fault, Call}
 use Rattle.register.specs.Held.{Held}
 use Rattle.register.specs.Lent.{Lists, Fresh}
 use Rattle.register.specs.Listing.{between}
-use Rattle.register.specs.Look.{Looked}
+use Rattle.register.specs.Look.{Spans, Looked}
 use Rattle.register.specs.Marks.{unmarked}
 use Rattle.register.specs.Replace.{Outcome, outcome, asked, after, Replaces}
 use Rattle.register.specs.Reply.{Answer, REFUSED, SINGULAR, PERMUTED, ELIMINATION, Reply, number, fault, reply}
@@ -71,9 +71,13 @@ fault-one m l = unless-one (λ _. unless-one (λ _. unless-one (λ _. unless-one
 pub check-determined : (m : ℕ) (l : Lists) (r r′ : Checked) → First-fault m l (fault r) → First-fault m l (fault r′) → r ≡ r′
 check-determined m l r r′ f f′ = sym (reply-back r) ∙ ap reply-of (fault-one m l (fault r) (fault r′) f f′) ∙ reply-back r′
 
+-- A look's part has one beginning and one end.
+pub span-determined : (m c : ℕ) (starts rows : List ℕ) (s s′ : ℕ × ℕ) → Spans m c starts rows s → Spans m c starts rows s′ → s ≡ s′
+span-determined m c starts rows = unless-one (λ _ s s′. same)
+
 pub look-determined : (m c : ℕ) (starts rows p p′ : List ℕ) → Looked m c starts rows p → Looked m c starts rows p′ → p ≡ p′
 look-determined m c starts rows p p′ f f′ =
-    let e = unless-one (λ _ s s′. same) (f .from, f .to) (f′ .from, f′ .to) (f .spans) (f′ .spans) in
+    let e = span-determined m c starts rows (f .from, f .to) (f′ .from, f′ .to) (f .spans) (f′ .spans) in
     f .taken ∙ ap (λ (s : ℕ × ℕ). between (s .0) (s .1) rows) e ∙ sym (f′ .taken)
 
 pub turn-determined : (P : List (List ℕ)) (s e s₁ e₁ s₂ e₂ : List ℕ) → Held P s e s₁ e₁ → Held P s e s₂ e₂ → (s₁ ≡ s₂) × (e₁ ≡ e₂)

@@ -14,11 +14,12 @@ mod store;
 pub mod turn;
 mod wide;
 
+use crate::look::Span;
 use crate::marks::Marks;
 ghost use mathlib.Core.Path.{_≡_};
 ghost use Rattle.register.specs.Checks.{First-fault, call};
 ghost use Rattle.register.specs.Lent.{lists, Fresh};
-ghost use Rattle.register.specs.Look.{Looked};
+ghost use Rattle.register.specs.Look.{Spans, Looked};
 ghost use Rattle.register.specs.Marks.{unmarked};
 ghost use Rattle.register.specs.Replace.{outcome, Replaces};
 ghost use Rattle.register.specs.Reply.{number, fault, reply};
@@ -128,11 +129,18 @@ impl Register {
         )
     }
 
+    // From which place and up to which the rows of one column stand in the caller's list.
+    pub fn span(self, col_starts: &[u16], col_rows: &[u16], column: usize) -> Span
+        ensures { λ r. ⌜ Spans (self .size) column (now («col_starts» .entry)) (now («col_rows» .entry)) (r .from, r .to) ⌝ }
+    {
+        look::sight(self.size, col_starts, col_rows, column)
+    }
+
     // The rows of one column, as a part of the caller's own list.
     pub fn look<'a>(self, col_starts: &[u16], col_rows: &'a [u16], column: usize) -> &'a [u16]
         ensures { λ part. ⌜ Looked (self .size) column (now («col_starts» .entry)) (now («col_rows» .entry)) (now part) ⌝ }
     {
-        let span = look::sight(self.size, col_starts, col_rows, column);
+        let span = self.span(col_starts, col_rows, column);
         let from = span.from;
         let to = span.to;
         &col_rows[from..to]

@@ -1,4 +1,4 @@
--- `look`: the part goes from and to the places that `sight` gives, which lie within the list.
+-- `look`: the part goes from and to the places that `span` gives, which lie within the list.
 use mathlib.Core.Path.{refl}
 use native.Mathlib.Omega.{arith}
 use borrow.Author.Needs.{needs}
@@ -11,8 +11,8 @@ look-spec =
     tie.close
     (tie.spec
     (λ c κs. search needs)
-    (λ c. omega (arith, in-order (c .sight .ensures)))
-    (λ c. omega (arith, in-order (c .sight .ensures)))
-    (λ c. omega (arith, in-order (c .sight .ensures)))
-    (λ c. omega (arith, in-order (c .sight .ensures)))
-    (λ c. record { from = _; to = _; spans = c .before .sight .ensures; taken = refl }))
+    (λ c. omega (arith, in-order (c .span .ensures)))
+    (λ c. omega (arith, in-order (c .span .ensures)))
+    (λ c. omega (arith, in-order (c .span .ensures)))
+    (λ c. omega (arith, in-order (c .span .ensures)))
+    (λ c. record { from = _; to = _; spans = c .before .span .ensures; taken = refl }))
