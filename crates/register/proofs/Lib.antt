@@ -18,7 +18,7 @@ pub mod Numbered
 pub mod Takings
 pub mod Fillings
 pub mod Exchanges
-pub mod Unmarked
+pub mod Bools
 pub mod Marking
 pub mod Sweeping
 pub mod Arranging

@@ -1,5 +1,6 @@
 // Marks on the numbers below 1,024, one for each. Callers go by the laws of specs/Sets.antt alone; only specs/Marks.antt
 // knows how marks are kept.
+use crate::Register;
 use crate::wide::wide;
 ghost use mathlib.Core.Path.{_≡_};
 ghost use Prim.Native.Nat.{ℕ, _+_, _≤_, _<_};
@@ -7,8 +8,9 @@ ghost use lib.ListN.{length};
 ghost use Rattle.pattern.specs.Places.{at};
 ghost use Rattle.pattern.specs.Series.{numbers};
 ghost use Rattle.register.specs.Held.{put};
-ghost use Rattle.register.specs.Limits.{max-mark};
+ghost use Rattle.register.specs.Limits.{max-size, max-mark};
 ghost use Rattle.register.specs.Marks.{marked, unmarked};
+ghost use Rattle.register.specs.Reach.{With-places};
 ghost use Rattle.register.specs.Sets.{With, First, Of-list, counted};
 
 pub struct Marks {
@@ -33,6 +35,19 @@ impl Marks {
         ensures { λ r. ⌜ With (marked self) (marked r) i ⌝ }
     {
         self.marks[i] = true;
+        self
+    }
+
+    // The places of the numbers are marked too, all in one call: marks by value are not copied for each.
+    pub fn with_places(mut self, numbers: &[u16], places: &[u16; Register::MAX_SIZE]) -> Self
+        requires { ⌜ ((k : ℕ) → k < length (now numbers) → (at (now numbers) k < max-size) × (at (now places) (at (now numbers) k) < max-mark)) ⌝ }
+        ensures { λ r. ⌜ With-places (marked self) (marked r) (at (now (places .entry))) (now (numbers .entry)) ⌝ }
+    {
+        let mut k = 0;
+        while k < numbers.len() {
+            self.marks[wide(places[wide(numbers[k])])] = true;
+            k += 1;
+        }
         self
     }
 
@@ -83,7 +98,7 @@ pub fn marks_of(numbers: &[u16]) -> Marks
     let mut marks = Marks::none();
     let mut k = 0;
     while k < numbers.len() {
-        marks = marks.with(wide(numbers[k]));
+        marks.marks[wide(numbers[k])] = true;
         k += 1;
     }
     marks

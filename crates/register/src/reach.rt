@@ -13,23 +13,9 @@ ghost use Rattle.register.specs.Limits.{max-size, max-mark};
 ghost use Rattle.register.specs.Listing.{parts, Good};
 ghost use Rattle.register.specs.Marks.{marked};
 ghost use Rattle.register.specs.Order.{Placed};
-ghost use Rattle.register.specs.Reach.{By-rows, With-places, Reached, Rows-at};
+ghost use Rattle.register.specs.Reach.{By-rows, Reached, Rows-at};
 ghost use Rattle.register.specs.Says.{Says};
 ghost use Rattle.register.specs.Sets.{Only-below};
-
-// The places of the columns are marked too.
-fn mark_row(cols: &[u16], old: &[u16; Register::MAX_SIZE], marks: Marks) -> Marks
-    requires { ⌜ ((k : ℕ) → k < length (now cols) → (at (now cols) k < max-size) × (at (now old) (at (now cols) k) < max-mark)) ⌝ }
-    ensures { λ r. ⌜ With-places (marked marks) (marked r) (at (now (old .entry))) (now (cols .entry)) ⌝ }
-{
-    let mut all = marks;
-    let mut k = 0;
-    while k < cols.len() {
-        all = all.with(wide(old[wide(cols[k])]));
-        k += 1;
-    }
-    all
-}
 
 // The old places of the columns of Reach(c), c being the column at place p. `old` has the old place of each column.
 pub fn reach(
@@ -49,7 +35,7 @@ pub fn reach(
     let mut marks = Register::empty_marks().with(p);
     let mut t = p;
     while t < m {
-        marks = mark_row(part(rs, rc, wide(or[t])), old, marks);
+        marks = marks.with_places(part(rs, rc, wide(or[t])), old);
         t = marks.next(t + 1);
     }
     marks

@@ -6,7 +6,7 @@ use lib.ListN.{length}
 use borrow.Author.Needs.{needs}
 use Rattle.pattern.specs.Pattern.{column}
 use mathlib.Core.List.{List}
-use Rattle.register.proofs.Unmarked.{unmarked-none}
+use Rattle.register.proofs.Bools.{unmarked-none}
 use Rattle.register.proofs.Sweeping.{Sweeping, sweeping-none, sweeping-more, sweeping-all}
 use Rattle.register.proofs.Listings.{good-columns, good-within, good-column}
 use Rattle.register.specs.Reach.{By-rows}
@@ -58,8 +58,8 @@ part-requires c κs =
     let h = s .pre .0 .2 (l .loop .t) (omega arith) in
     omega (arith, c .wide .ensures, h, s .pre .0 .0 .room, good-within (s .pre .0 .0) (c .wide .result) (omega (arith, c .wide .ensures, h)))
 
-mark-row-requires : tie.Need-mark-row-requires Inv-loop μ-loop
-mark-row-requires c κs = λ k h.
+with-places-requires : tie.Need-with-places-requires Inv-loop μ-loop
+with-places-requires c κs = λ k h.
     let s = begun c in
     let y = good-columns (s .pre .0 .0) .rise (at (s .args .or .now) (head c .loop .t)) (row-in c) .below k (omega (arith, ap length (is-row c))) in
     let e = ap (λ (l : List ℕ). at l k) (is-row c) in
@@ -74,7 +74,7 @@ loop-again c =
     let l = head p in
     let s = begun p in
     let F = c .next .ensures in
-    (F .within, F .there, λ col L S. sweeping-more (s .pre .0 .0) L S (omega arith) (true-T (l .loop .inv .1 (omega (arith, s .pre .0 .0 .small)))) (l .loop .inv .2 col L S) (rw (is-row p) at (c .before .mark-row .ensures)) F)
+    (F .within, F .there, λ col L S. sweeping-more (s .pre .0 .0) L S (omega arith) (true-T (l .loop .inv .1 (omega (arith, s .pre .0 .0 .small)))) (l .loop .inv .2 col L S) (rw (is-row p) at (c .before .with-places .ensures)) F)
 
 returns : tie.Need-returns Inv-loop μ-loop
 returns c =
@@ -95,7 +95,7 @@ reach-spec =
     (λ c. search needs)
     (λ c κs. search needs)
     part-requires
-    mark-row-requires
+    with-places-requires
     (λ c. search needs)
     (λ c κs. search needs)
     loop-less

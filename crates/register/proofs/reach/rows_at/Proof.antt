@@ -4,7 +4,7 @@ use Prim.Native.Nat.{_-_, _≤_, _<_}
 use native.Mathlib.Omega.{arith}
 use borrow.Author.Needs.{needs}
 use mathlib.Core.Logic.{⊎-elim}
-use Rattle.register.proofs.Unmarked.{unmarked-none}
+use Rattle.register.proofs.Bools.{unmarked-none}
 use Rattle.register.proofs.Sweeping.{Taking, taking-none, taking-other, taking-same, taking-all}
 use Rattle.register.specs.Marks.{marked}
 use Rattle.pattern.proofs.Tests.{true-T}
