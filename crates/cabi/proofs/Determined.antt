@@ -11,12 +11,12 @@ use Rattle.register.proofs.Determined.{fault-one, span-determined, outcome-one}
 use Rattle.cabi.specs.Code.{code}
 use Rattle.cabi.specs.Replace.{Gives}
 
-pub check-determined : (m : ℕ) (l : Lists) (n n′ : ℕ) → First-fault m l n → First-fault m l n′ → n ≡ n′
-check-determined = fault-one
+pub scrollbobbin-check-determined : (m : ℕ) (l : Lists) (n n′ : ℕ) → First-fault m l n → First-fault m l n′ → n ≡ n′
+scrollbobbin-check-determined = fault-one
 
-pub look-determined : (m c : ℕ) (starts rows : List ℕ) (b n b′ n′ : ℕ) → Spans m c starts rows (b, b + n) → Spans m c starts rows (b′, b′ + n′)
+pub scrollbobbin-look-determined : (m c : ℕ) (starts rows : List ℕ) (b n b′ n′ : ℕ) → Spans m c starts rows (b, b + n) → Spans m c starts rows (b′, b′ + n′)
     → (b ≡ b′) × (n ≡ n′)
-look-determined m c starts rows b n b′ n′ f f′ =
+scrollbobbin-look-determined m c starts rows b n b′ n′ f f′ =
     let e = span-determined m c starts rows (b, b + n) (b′, b′ + n′) f f′ in
     let first = ap (λ (s : ℕ × ℕ). s .0) e in
     (first, omega (arith, first, ap (λ (s : ℕ × ℕ). s .1) e))
@@ -29,9 +29,9 @@ pub record Same-gift (r b n : ℕ) (l : Lists) (e : List ℕ) (r′ b′ n′ : 
   pub lists : l ≡ l′
   pub eta : e ≡ e′
 
-pub replace-determined : (a : Call) (r b n : ℕ) (l : Lists) (e : List ℕ) (r′ b′ n′ : ℕ) (l′ : Lists) (e′ : List ℕ) → Gives a r b n l e → Gives a r′ b′ n′ l′ e′
+pub scrollbobbin-replace-determined : (a : Call) (r b n : ℕ) (l : Lists) (e : List ℕ) (r′ b′ n′ : ℕ) (l′ : Lists) (e′ : List ℕ) → Gives a r b n l e → Gives a r′ b′ n′ l′ e′
     → Same-gift r b n l e r′ b′ n′ l′ e′
-replace-determined a r b n l e r′ b′ n′ l′ e′ f f′ =
+scrollbobbin-replace-determined a r b n l e r′ b′ n′ l′ e′ f f′ =
     let o = outcome-one a (outcome (f .reply) l e) (outcome (f′ .reply) l′ e′) (f .right) (f′ .right) in
     record {
       result = f .its-answer ∙ ap (λ (x : Outcome). code (x .reply .answer)) o ∙ sym (f′ .its-answer);
