@@ -4,8 +4,8 @@ use mathlib.Core.List.{List}
 use mathlib.Core.Path.{_≡_, refl, sym, ap, _∙_, subst}
 use Prim.Native.Nat.{ℕ}
 use lib.Dec.{eqb, ltb}
-use Rattle.pattern.specs.Ladder.{Unless, fails, holds}
 use Rattle.pattern.specs.Verdict.{Verdict, Singular, Permuted, Elimination}
+use Rattle.pattern.proofs.Rungs.{unless-both}
 use Rattle.register.specs.Checks.{Call}
 use Rattle.register.specs.Lent.{Lists}
 use Rattle.register.specs.Replace.{Outcome, outcome, after, Replaces}
@@ -23,11 +23,6 @@ told answer bump eta-count = record { answer = answer; bump = bump; eta-count = 
 abbrev Read-back : Outcome → Type 0
 Read-back o = answer-of (code (o .reply .answer)) ≡ o .reply .answer
 
--- On one rung: what is so of its refusal, and of all that is above it.
-rung : {P : Type 0} {x : Outcome} {rest : Outcome → Type 0} {o : Outcome} → Read-back x → (rest o → Read-back o) → Unless P x rest o → Read-back o
-rung f g (fails n e) = subst Read-back (sym e) f
-rung f g (holds p r) = g r
-
 module _ (a : Call) where
   verdict-back : (v : Verdict) → Read-back (after a v)
   unfolding answer-of
@@ -39,15 +34,14 @@ module _ (a : Call) where
   read-back : {o : Outcome} → Replaces a o → Read-back o
   unfolding answer-of
   read-back =
-      rung refl
-      (rung refl
-      (rung refl
-      (rung refl
-      (rung refl
-      (rung refl
-      (rung refl
-      (rung refl
-      (λ x. subst Read-back (sym (x .2)) (verdict-back (x .0))))))))))
+      unless-both Read-back refl (λ p.
+      unless-both Read-back refl (λ q.
+      unless-both Read-back refl (λ f.
+      unless-both Read-back refl (λ g.
+      unless-both Read-back refl (λ t.
+      unless-both Read-back refl (λ c.
+      unless-both Read-back refl (λ n.
+      unless-both Read-back refl (λ w x. subst Read-back (sym (x .2)) (verdict-back (x .0))))))))))
 
   -- The right reply, from the result, the bump and the eta count.
   pub read-off : (n b k : ℕ) (l : Lists) (e : List ℕ) → Gives a n b k l e → Replaces a (outcome (told (answer-of n) b k) l e)

@@ -1,5 +1,5 @@
 -- What each judgment tells, and that the changes made after it leave the verdict's outcome. Rests on specs/Judge.antt,
--- Exchanged.antt and Readback.antt.
+-- Spikes.antt and Readback.antt.
 use mathlib.Core.Bool.{Bool}
 use mathlib.Core.List.{List}
 use mathlib.Core.Path.{_≡_, refl, sym, ap, _∙_}
@@ -28,7 +28,7 @@ use Rattle.register.specs.Store.{exchanged}
 use Rattle.register.specs.declared.Judgment.{Judgment}
 use Rattle.register.specs.declared.Judgment.the-variants as judgment
 use Rattle.register.proofs.Calls.{call-columns, call-size}
-use Rattle.register.proofs.Exchanged.{call-place, call-spiked, call-cleared, spiked-fits, cleared-fits}
+use Rattle.register.proofs.Spikes.{call-place, call-spiked, call-cleared, spiked-fits, cleared-fits}
 use Rattle.register.proofs.Readback.{held-parts, held-good}
 
 -- ---- What a judgment tells

@@ -1,4 +1,4 @@
--- The three verdicts from what the peel and the sweep find. Rests on specs/Judge.antt, Exchanged.antt, Numbered.antt and
+-- The three verdicts from what the peel and the sweep find. Rests on specs/Judge.antt, Spikes.antt, Numbered.antt and
 -- `pattern`.
 use mathlib.Core.Bool.{Bool}
 use mathlib.Core.List.{List}
@@ -40,7 +40,7 @@ use Rattle.register.specs.Replace.{asked}
 use Rattle.register.specs.Sets.{Of-list}
 use Rattle.register.specs.declared.Judgment.the-variants as judgment
 use Rattle.register.proofs.Calls.{call-size, call-judged}
-use Rattle.register.proofs.Exchanged.{call-place}
+use Rattle.register.proofs.Spikes.{call-place}
 use Rattle.register.proofs.Numbered.{below-numbers}
 
 module _ {a : Call} (J : Judgeable a) where

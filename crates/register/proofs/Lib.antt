@@ -26,7 +26,7 @@ pub mod PeelCounts
 pub mod Peels
 pub mod Soundness
 pub mod Calls
-pub mod Exchanged
+pub mod Spikes
 pub mod Judging
 pub mod Changes
 pub mod Determined

@@ -1,4 +1,4 @@
--- After a right reply a sound register is sound again, and so after any number of calls. Rests on Readback.antt, Exchanged.antt,
+-- After a right reply a sound register is sound again, and so after any number of calls. Rests on Readback.antt, Spikes.antt,
 -- Calls.antt and `pattern`.
 use mathlib.Core.List.{List, []}
 use mathlib.Core.Path.{_≡_, refl, sym, _∙_, subst, subst₂}
@@ -25,7 +25,7 @@ use Rattle.register.specs.Limits.{max-size, max-total}
 use Rattle.register.specs.Listing.{parts, Good}
 use Rattle.register.specs.Replace.{Outcome, asked, stored, after, Replaces}
 use Rattle.register.proofs.Calls.{call-columns, call-size, call-judged}
-use Rattle.register.proofs.Exchanged.{spiked-fits, cleared-fits}
+use Rattle.register.proofs.Spikes.{spiked-fits, cleared-fits}
 use Rattle.register.proofs.Holding.{over-new, over-length}
 use Rattle.register.proofs.Readback.{held-parts, held-good}
 

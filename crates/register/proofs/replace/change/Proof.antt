@@ -14,7 +14,7 @@ use Rattle.register.specs.Marks.{marked}
 use Rattle.register.specs.Replace.{asked}
 use Rattle.register.specs.Sets.{Of-list}
 use Rattle.register.proofs.Changes.{Permutes, Eliminates, told-permuted, told-elimination, unchanged, spiked-room, spiked-good, changed-permuted, cleared-room, changed-elimination}
-use Rattle.register.proofs.Exchanged.{of-list-below, call-row, call-cleared-below}
+use Rattle.register.proofs.Spikes.{of-list-below, call-row, call-cleared-below}
 use Rattle.register.proofs.Orders.{placed-below}
 use Rattle.register.proofs.Soundness.{columns-good}
 use Rattle.register.proofs.replace.change.Statement.{statement}
