@@ -1,4 +1,5 @@
--- A ladder of refusals has one outcome at most. Rests on specs/Ladder.antt.
+-- A ladder of refusals: it has one outcome at most, and what follows from its outcome. Rests on specs/Ladder.antt.
+use mathlib.Core.Logic.{_≢_}
 use mathlib.Core.Path.{_≡_, sym, _∙_, subst}
 use Rattle.pattern.specs.Ladder.{Unless, fails, holds}
 
@@ -20,3 +21,13 @@ unless-map f g (holds p r) = holds p (g r)
 pub unless-both : {A P : Type 0} {x : A} {rest : A → Type 0} {o : A} (F : A → Type 0) → F x → (P → rest o → F o) → Unless P x rest o → F o
 unless-both F f g (fails n e) = subst F (sym e) f
 unless-both F f g (holds p r) = g p r
+
+-- Where the outcome is not the refusal, the check holds, and what is above.
+pub unless-past : {A P : Type 0} {x : A} {rest : A → Type 0} {o : A} → o ≢ x → Unless P x rest o → P × rest o
+unless-past n (fails f e) = absurd (n e)
+unless-past n (holds p r) = (p, r)
+
+-- Where the check holds, so does what is above.
+pub unless-held : {A P : Type 0} {x : A} {rest : A → Type 0} {o : A} → P → Unless P x rest o → rest o
+unless-held p (fails n e) = absurd (n p)
+unless-held p (holds q r) = r

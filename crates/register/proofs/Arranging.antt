@@ -9,7 +9,7 @@ use native.Mathlib.Omega.{arith}
 use lib.ListN.{length, set, take, length-set}
 use lib.Seq.{getD-set-same, getD-set-other, getD-take, length-take-le}
 use Rattle.pattern.specs.Order.{Sound}
-use Rattle.pattern.specs.Pattern.{Entry}
+use Rattle.pattern.specs.Pattern.{column, Entry}
 use Rattle.pattern.specs.Places.{at, Once, place}
 use Rattle.pattern.specs.Series.{greatest}
 use Rattle.pattern.specs.Verdict.{to-last}
@@ -20,6 +20,7 @@ use Rattle.register.specs.Listing.{part, parts, Good}
 use Rattle.register.specs.Order.{Placed}
 use Rattle.register.specs.Walk.{Kept}
 use Rattle.register.proofs.Holding.{over-is}
+use Rattle.register.proofs.Listings.{part-is, good-columns}
 use Rattle.register.proofs.Orders.{sound-topped}
 use Rattle.register.proofs.Turns.{kept-all, kept-set}
 
@@ -71,7 +72,9 @@ cols-place {m} {cs} {cr} {places} G order e L S =
       once = S .cols;
       gives = λ y h.
           let p = place-of (S .cols) y h in
-          ap (λ (c : ℕ). greatest (at places) (part cs cr c)) (sym (p .1)) ∙ sound-topped G L (at order) S (place (at order) m y) (p .0) .top;
+          ap (greatest (at places)) (sym (part-is m cs cr y h))
+          ∙ ap (λ (c : ℕ). greatest (at places) (column (parts m cs cr) c)) (sym (p .1))
+          ∙ sound-topped (good-columns G) L (at order) S (place (at order) m y) (p .0) .top;
     }
 
 -- ---- To the last place

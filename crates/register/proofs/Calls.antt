@@ -14,7 +14,7 @@ use Rattle.register.specs.Judge.{Judgeable}
 use Rattle.register.specs.Lent.{columns, Sound-lists}
 use Rattle.register.specs.Reply.{number}
 use Rattle.register.specs.declared.Refusal.{Refusal}
-use Rattle.register.specs.declared.Refusal.the-variants.{Size, ShortList, MalformedListing, ListingsDiffer, OrderUnsound, ColumnNumber, NewColumn, NoRoom}
+use Rattle.register.specs.declared.Refusal.the-variants.{Size, ShortList, MalformedListing, ListingsDiffer, OrderUnsound, ColumnNumber, NewColumn, NoRoom, SheetCut, SheetNumber, SheetRange, SheetSurplus}
 use Rattle.register.specs.Replace.{Outcome, asked, refusal, Answered, Replaces}
 use Rattle.register.proofs.Listings.{good-columns}
 use Rattle.register.proofs.Soundness.{columns-good, register-sound}
@@ -29,6 +29,10 @@ number-some OrderUnsound e = omega arith
 number-some ColumnNumber e = omega arith
 number-some NewColumn e = omega arith
 number-some NoRoom e = omega arith
+number-some SheetCut e = omega arith
+number-some SheetNumber e = omega arith
+number-some SheetRange e = omega arith
+number-some SheetSurplus e = omega arith
 
 -- What may be judged in lent lists may be judged as a pattern: the columns list one of the call's size.
 module _ {a : Call} (J : Judgeable a) where

@@ -1,8 +1,9 @@
 -- No two replies satisfy the statement of a public function for one input. Rests on Calls.antt and `pattern`.
-use mathlib.Core.List.{List}
+use mathlib.Core.List.{List, [], _∷_}
 use mathlib.Core.Path.{_≡_, refl, sym, ap, _∙_}
 use Prim.Native.Nat.{ℕ, zero, suc}
 use native.Mathlib.Omega.{arith}
+use lib.ListN.{getD}
 use lib.Seq.{ext-getD}
 use Rattle.pattern.proofs.Rungs.{unless-one}
 use Rattle.pattern.proofs.Verdicts.{judged-unique}
@@ -17,7 +18,7 @@ use Rattle.register.specs.Reply.{Answer, REFUSED, SINGULAR, PERMUTED, EL
 use Rattle.register.specs.declared.Checked.{Checked}
 use Rattle.register.specs.declared.Checked.the-variants.{Sound, Refused}
 use Rattle.register.specs.declared.Refusal.{Refusal}
-use Rattle.register.specs.declared.Refusal.the-variants.{Size, ShortList, MalformedListing, ListingsDiffer, OrderUnsound, ColumnNumber, NewColumn, NoRoom}
+use Rattle.register.specs.declared.Refusal.the-variants.{Size, ShortList, MalformedListing, ListingsDiffer, OrderUnsound, ColumnNumber, NewColumn, NoRoom, SheetCut, SheetNumber, SheetRange, SheetSurplus}
 use Rattle.register.specs.declared.Judgment.the-variants.{Singular, Permuted, Elimination}
 use Rattle.register.specs.declared.Replaced.{Replaced}
 use Rattle.register.specs.declared.Replaced.the-variants as replaced
@@ -30,19 +31,29 @@ same e f = e ∙ sym f
 
 -- ---- The reply of a number
 
+-- In the order of their numbers.
+replies : List Checked
+replies =
+    Sound
+    ∷ Refused Size
+    ∷ Refused ShortList
+    ∷ Refused MalformedListing
+    ∷ Refused ListingsDiffer
+    ∷ Refused OrderUnsound
+    ∷ Refused ColumnNumber
+    ∷ Refused NewColumn
+    ∷ Refused NoRoom
+    ∷ Refused SheetCut
+    ∷ Refused SheetNumber
+    ∷ Refused SheetRange
+    ∷ Refused SheetSurplus
+    ∷ []
+
 reply-of : ℕ → Checked
-reply-of zero = Sound
-reply-of (suc zero) = Refused Size
-reply-of (suc (suc zero)) = Refused ShortList
-reply-of (suc (suc (suc zero))) = Refused MalformedListing
-reply-of (suc (suc (suc (suc zero)))) = Refused ListingsDiffer
-reply-of (suc (suc (suc (suc (suc zero))))) = Refused OrderUnsound
-reply-of (suc (suc (suc (suc (suc (suc zero)))))) = Refused ColumnNumber
-reply-of (suc (suc (suc (suc (suc (suc (suc zero))))))) = Refused NewColumn
-reply-of (suc (suc (suc (suc (suc (suc (suc (suc n)))))))) = Refused NoRoom
+reply-of n = getD replies n Sound
 
 reply-back : (r : Checked) → reply-of (fault r) ≡ r
-unfolding reply-of
+unfolding replies reply-of
 reply-back Sound = refl
 reply-back (Refused Size) = refl
 reply-back (Refused ShortList) = refl
@@ -52,6 +63,14 @@ reply-back (Refused OrderUnsound) = refl
 reply-back (Refused ColumnNumber) = refl
 reply-back (Refused NewColumn) = refl
 reply-back (Refused NoRoom) = refl
+reply-back (Refused SheetCut) = refl
+reply-back (Refused SheetNumber) = refl
+reply-back (Refused SheetRange) = refl
+reply-back (Refused SheetSurplus) = refl
+
+-- No two refusals have one number.
+pub refusal-one : (r r′ : Refusal) → number r ≡ number r′ → r ≡ r′
+refusal-one r r′ e = cc (sym (reply-back (Refused r)) ∙ ap reply-of e ∙ reply-back (Refused r′))
 
 -- ---- The public functions
 

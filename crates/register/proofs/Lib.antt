@@ -10,6 +10,7 @@ pub mod Agreement
 pub mod Orders
 pub mod Holding
 pub mod Readback
+pub mod Holdings
 pub mod Puts
 pub mod Turns
 pub mod Without

@@ -1,5 +1,5 @@
 -- Places of an order's rows, entered one by one, and what the columns' greatest places say of the order.
--- Rests on specs/Order.antt, Listings.antt and `pattern`.
+-- Rests on specs/Order.antt and `pattern`.
 use mathlib.Core.List.{List}
 use mathlib.Core.Logic.{_≢_, ⊎-elim}
 use mathlib.Core.Path.{_≡_, sym, ap, _∙_}
@@ -7,11 +7,10 @@ use Prim.Native.Nat.{ℕ, _+_, _≤_, _<_, max}
 use native.Mathlib.Decide.{ℕ-discrete}
 use native.Mathlib.Numerals.{add-one}
 use native.Mathlib.Omega.{arith}
-use lib.Dec.{T}
 use lib.ListN.{length, take, set, length-set}
 use lib.Seq.{getD-set-same, getD-set-other, take-suc}
 use Rattle.pattern.specs.Order.{Sound}
-use Rattle.pattern.specs.Pattern.{has, Entry}
+use Rattle.pattern.specs.Pattern.{column, Entry}
 use Rattle.pattern.specs.Places.{at, Among, Outside, Once, place}
 use Rattle.pattern.specs.Rising.{Rising}
 use Rattle.pattern.specs.Series.{greatest}
@@ -22,11 +21,9 @@ use Rattle.pattern.proofs.Once.{once-none, once-more}
 use Rattle.pattern.proofs.Rises.{rising-below}
 use Rattle.pattern.proofs.Search.{last-or}
 use Rattle.pattern.proofs.Tests.{has-among}
-use Rattle.pattern.proofs.Turning.{row-below}
+use Rattle.pattern.proofs.Turning.{Columns, row-below}
 use Rattle.register.specs.Limits.{max-size}
-use Rattle.register.specs.Listing.{part, parts, Good}
 use Rattle.register.specs.Order.{Placed, Topped}
-use Rattle.register.proofs.Listings.{part-is, good-columns}
 
 -- ---- Entering the places
 
@@ -80,35 +77,33 @@ placed-below L x h = omega (arith, L .stand x h, place-of (L .once) x h .0)
 
 -- ---- Greatest places
 
-module _ {m : ℕ} {cs cr : List ℕ} {row : ℕ → ℕ} {places : List ℕ} (G : Good m cs cr) (L : Placed m row places) where
+module _ {m : ℕ} {P : List (List ℕ)} {row : ℕ → ℕ} {places : List ℕ} (C : Columns m P) (L : Placed m row places) where
   -- A row of a column is the row of its place.
-  row-at : (x c : ℕ) → Entry (parts m cs cr) x c → (at places x < m) × (row (at places x) ≡ x)
+  row-at : (x c : ℕ) → Entry P x c → (at places x < m) × (row (at places x) ≡ x)
   row-at x c e =
-      let h = row-below (good-columns G) x c e in
+      let h = row-below C x c e in
       let p = place-of (L .once) x h in
       (omega (arith, L .stand x h, p .0), ap row (L .stand x h) ∙ p .1)
 
   at-row : (t : ℕ) → t < m → at places (row t) ≡ t
   at-row t h = L .stand (row t) (L .once .below t h) ∙ place-at (L .once) t h
 
-  pub topped-sound : (col : ℕ → ℕ) → ((t : ℕ) → t < m → Topped m places cs cr (col t) t) → Sound (Entry (parts m cs cr)) m row col
+  pub topped-sound : (col : ℕ → ℕ) → ((t : ℕ) → t < m → Topped m places P (col t) t) → Sound (Entry P) m row col
   topped-sound col top =
       record {
         rows = L .once;
         cols = record {
           below = λ t h. top t h .below;
-          once = λ s t hs ht e. sym (top s hs .top) ∙ ap (λ (c : ℕ). greatest (at places) (part cs cr c)) e ∙ top t ht .top;
+          once = λ s t hs ht e. sym (top s hs .top) ∙ ap (λ (c : ℕ). greatest (at places) (column P c)) e ∙ top t ht .top;
         };
         paired = λ t h.
-            let g = greatest-some (at places) (part cs cr (col t)) (top t h .some) in
-            let e : Entry (parts m cs cr) (g .0) (col t) = rw (part-is m cs cr (col t) (top t h .below)) (g .1) in
-            let z : row t ≡ g .0 = ap row (sym (g .2 ∙ top t h .top)) ∙ row-at (g .0) (col t) e .1 in
-            rw z e;
-        upper = λ s t hs ht e.
-            omega (arith, greatest-high (at places) (part cs cr (col t)) (row s) (rw (part-is m cs cr (col t) (top t ht .below)) at e), at-row s hs, top t ht .top);
+            let g = greatest-some (at places) (column P (col t)) (top t h .some) in
+            let z : row t ≡ g .0 = ap row (sym (g .2 ∙ top t h .top)) ∙ row-at (g .0) (col t) (g .1) .1 in
+            rw z (g .1);
+        upper = λ s t hs ht e. omega (arith, greatest-high (at places) (column P (col t)) (row s) e, at-row s hs, top t ht .top);
       }
 
-  pub sound-topped : (col : ℕ → ℕ) → Sound (Entry (parts m cs cr)) m row col → (t : ℕ) → t < m → Topped m places cs cr (col t) t
+  pub sound-topped : (col : ℕ → ℕ) → Sound (Entry P) m row col → (t : ℕ) → t < m → Topped m places P (col t) t
   sound-topped col S t h =
       record {
         below = S .cols .below t h;
@@ -116,21 +111,17 @@ module _ {m : ℕ} {cs cr : List ℕ} {row : ℕ → ℕ} {places : List ℕ} (G
         top = omega (arith, low, high);
       }
     where
-      here : T (has (part cs cr (col t)) (row t))
-      here = rw (part-is m cs cr (col t) (S .cols .below t h)) at (S .paired t h)
+      some : 0 < length (column P (col t))
+      some = let a = has-among (column P (col t)) (row t) (S .paired t h) in omega (arith, a .1)
 
-      some : 0 < length (part cs cr (col t))
-      some = let a = has-among (part cs cr (col t)) (row t) here in omega (arith, a .1)
+      high : t ≤ greatest (at places) (column P (col t))
+      high = omega (arith, greatest-high (at places) (column P (col t)) (row t) (S .paired t h), at-row t h)
 
-      high : t ≤ greatest (at places) (part cs cr (col t))
-      high = omega (arith, greatest-high (at places) (part cs cr (col t)) (row t) here, at-row t h)
-
-      low : greatest (at places) (part cs cr (col t)) ≤ t
+      low : greatest (at places) (column P (col t)) ≤ t
       low =
-          let g = greatest-some (at places) (part cs cr (col t)) some in
-          let e : Entry (parts m cs cr) (g .0) (col t) = rw (part-is m cs cr (col t) (S .cols .below t h)) (g .1) in
-          let r = row-at (g .0) (col t) e in
-          omega (arith, g .2, S .upper (at places (g .0)) t (r .0) h (rw (r .1) e))
+          let g = greatest-some (at places) (column P (col t)) some in
+          let r = row-at (g .0) (col t) (g .1) in
+          omega (arith, g .2, S .upper (at places (g .0)) t (r .0) h (rw (r .1) (g .1)))
 
 -- The greatest so far, and one row more.
 pub greatest-on : (f : ℕ → ℕ) (l : List ℕ) (k : ℕ) → k < length l → greatest f (take (k + 1) l) ≡ max (greatest f (take k l)) (f (at l k))

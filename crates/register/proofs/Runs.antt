@@ -1,4 +1,4 @@
--- After a right reply a sound register is sound again, and so after any number of calls. Rests on Readback.antt, Spikes.antt,
+-- After a right reply a sound register is sound again, and so after any number of calls. Rests on Holdings.antt, Spikes.antt,
 -- Calls.antt and `pattern`.
 use mathlib.Core.List.{List, []}
 use mathlib.Core.Path.{_≡_, refl, sym, _∙_, subst, subst₂}
@@ -26,71 +26,24 @@ use Rattle.register.specs.Listing.{parts, Good}
 use Rattle.register.specs.Replace.{Outcome, asked, stored, after, Replaces}
 use Rattle.register.proofs.Calls.{call-columns, call-size, call-judged}
 use Rattle.register.proofs.Spikes.{spiked-fits, cleared-fits}
-use Rattle.register.proofs.Holding.{over-new, over-length}
-use Rattle.register.proofs.Readback.{held-parts, held-good}
+use Rattle.register.proofs.Holdings.{holding-sound}
 
--- ---- What is stored is sound
-
--- The listing of a pattern written over lists with room for it reads back as the pattern, and is a good listing.
-module _ {m : ℕ} {Q : List (List ℕ)} (C : Columns m Q) (small : m ≤ max-size) (few : start-of Q m ≤ max-total) (starts entries : List ℕ)
-    (room : m < length starts) (fits : start-of Q m ≤ length entries) where
-  held : Held Q starts entries (over (starts-of Q) starts) (over (flat Q) entries)
-  held = record { starts-after = refl; entries-after = refl }
-
-  reads-back : parts m (over (starts-of Q) starts) (over (flat Q) entries) ≡ Q
-  reads-back = held-parts (C .size) room fits held
-
-  reads-well : Good m (over (starts-of Q) starts) (over (flat Q) entries)
-  reads-well = held-good (C .size) room fits held C few small
+-- ---- After a call
 
 module _ (a : Call) (s : Sound-lists (a .size) (a .lists)) {P : List (List ℕ)} (C : Columns (a .size) P)
     (F : Fits (start-of P (a .size)) (a .lists .col-rows) (a .lists .row-cols)) where
-  abbrev m : ℕ
-  m = a .size
-
-  abbrev l : Lists
-  l = a .lists
-
-  -- The pattern turned takes as much room.
-  as-many : start-of (turned m P) m ≡ start-of P m
-  as-many = turned-total C
-
-  columns-back : columns m (stored a P [] []) ≡ P
-  columns-back = reads-back C (s .sized .1) (F .few) (l .col-starts) (l .col-rows) (s .long .columns-fit .starts-long) (F .in-columns)
-
-  columns-well : Good m (over (starts-of P) (l .col-starts)) (over (flat P) (l .col-rows))
-  columns-well = reads-well C (s .sized .1) (F .few) (l .col-starts) (l .col-rows) (s .long .columns-fit .starts-long) (F .in-columns)
-
-  rows-back : rows m (stored a P [] []) ≡ turned m P
-  rows-back =
-      reads-back (turned-columns m P) (s .sized .1) (omega (arith, as-many, F .few)) (l .row-starts) (l .row-cols) (s .long .rows-fit .starts-long)
-      (omega (arith, as-many, F .in-rows))
-
-  rows-well : Good m (over (starts-of (turned m P)) (l .row-starts)) (over (flat (turned m P)) (l .row-cols))
-  rows-well =
-      reads-well (turned-columns m P) (s .sized .1) (omega (arith, as-many, F .few)) (l .row-starts) (l .row-cols) (s .long .rows-fit .starts-long)
-      (omega (arith, as-many, F .in-rows))
-
-  -- With a sound order it is a sound register.
-  stored-sound : (p q : List ℕ) → Sound-order (Entry P) m p q → Sound-lists m (stored a P p q)
-  stored-sound p q o =
-      record {
-        sized = s .sized;
-        long =
-            record {
-              columns-fit = columns-well .room;
-              rows-fit = rows-well .room;
-              order-rows-fit = omega (arith, s .long .order-rows-fit, over-length p (l .order-rows) (omega (arith, o .row-count, s .long .order-rows-fit)));
-              order-cols-fit = omega (arith, s .long .order-cols-fit, over-length q (l .order-cols) (omega (arith, o .col-count, s .long .order-cols-fit)));
-            };
-        formed = record { columns-formed = columns-well .formed; rows-formed = rows-well .formed };
-        agree = subst₂ Same-entries (sym columns-back) (sym rows-back) (turned-same C);
-        order =
-            subst (λ (P : List (List ℕ)). Sound (Entry P) m (at (over p (l .order-rows))) (at (over q (l .order-cols)))) (sym columns-back)
-            (sound-same (λ t h. sym (over-new p (l .order-rows) t (omega (arith, o .row-count)))) (λ t h. sym (over-new q (l .order-cols) t (omega (arith, o .col-count)))) (o .sound));
-      }
-
--- ---- After a call
+  -- What is stored with a sound order is a sound register.
+  stored-sound : (p q : List ℕ) → Sound-order (Entry P) (a .size) p q → Sound-lists (a .size) (stored a P p q)
+  stored-sound =
+      holding-sound (s .sized) C (F .few)
+      (record {
+        col-starts-fit = s .long .columns-fit .starts-long;
+        col-rows-fit = F .in-columns;
+        row-starts-fit = s .long .rows-fit .starts-long;
+        row-cols-fit = F .in-rows;
+        order-rows-fit = s .long .order-rows-fit;
+        order-cols-fit = s .long .order-cols-fit;
+      })
 
 module _ (a : Call) where
   -- After the right verdict.

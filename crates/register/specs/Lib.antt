@@ -2,8 +2,8 @@
 pub mod Limits
 pub mod Says
 pub mod Listing
-pub mod Held
 pub mod Lent
+pub mod Held
 pub mod Reply
 pub mod Checks
 pub mod Look

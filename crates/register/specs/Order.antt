@@ -1,12 +1,12 @@
--- The places of an order's rows in a scratch list, for the contracts of the steps of `order`. Rests on Listing.antt.
+-- The places of an order's rows in a scratch list, for the contracts of the steps of `order`. Rests on Limits.antt and `pattern`.
 use mathlib.Core.List.{List}
 use mathlib.Core.Path.{_≡_}
 use Prim.Native.Nat.{ℕ, _<_}
 use lib.ListN.{length}
+use Rattle.pattern.specs.Pattern.{column}
 use Rattle.pattern.specs.Places.{at, Once, place}
 use Rattle.pattern.specs.Series.{greatest}
 use Rattle.register.specs.Limits.{max-size}
-use Rattle.register.specs.Listing.{part}
 
 -- `f 0 .. f (m - 1)` are each number below `m` once, and the list has the place of each.
 pub record Placed (m : ℕ) (f : ℕ → ℕ) (places : List ℕ) : Type 0 where
@@ -15,7 +15,7 @@ pub record Placed (m : ℕ) (f : ℕ → ℕ) (places : List ℕ) : Type 0 where
   pub stand : (x : ℕ) → x < m → at places x ≡ place f m x
 
 -- Column `c` may stand at place `t` of an order: it is in range and has rows, and the greatest place among them is `t`.
-pub record Topped (m : ℕ) (places starts rows : List ℕ) (c t : ℕ) : Type 0 where
+pub record Topped (m : ℕ) (places : List ℕ) (P : List (List ℕ)) (c t : ℕ) : Type 0 where
   pub below : c < m
-  pub some : 0 < length (part starts rows c)
-  pub top : greatest (at places) (part starts rows c) ≡ t
+  pub some : 0 < length (column P c)
+  pub top : greatest (at places) (column P c) ≡ t

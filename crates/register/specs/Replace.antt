@@ -3,12 +3,10 @@ use mathlib.Core.List.{List}
 use mathlib.Core.Path.{_≡_}
 use Prim.Native.Nat.{ℕ}
 use lib.ListN.{length, take}
-use Rattle.pattern.specs.Flat.{flat, starts-of}
-use Rattle.pattern.specs.Turned.{turned}
 use Rattle.pattern.specs.Verdict.{Replacement, spiked-columns, cleared-columns, Verdict, Singular, Permuted, Elimination, Judged}
 use Rattle.register.specs.Checks.{Call, Call-checks}
-use Rattle.register.specs.Held.{over}
-use Rattle.register.specs.Lent.{Lists, lists, columns}
+use Rattle.register.specs.Held.{over, holding}
+use Rattle.register.specs.Lent.{Lists, columns}
 use Rattle.register.specs.Reply.{Reply, refused, singular, permuted, elimination}
 
 -- What comes back: the reply, and the lent lists as they are then.
@@ -32,13 +30,9 @@ module _ (a : Call) where
         new-rows = a .new-rows;
       }
 
-  -- The lists hold the columns `P` in both listings, and the order; past what these use, they hold what they held.
+  -- The lists hold the columns `P` in both listings, and the order.
   abbrev pub stored : (P : List (List ℕ)) (rows cols : List ℕ) → Lists
-  stored P rows cols =
-      let l = a .lists in
-      let Q = turned (a .size) P in
-      lists (over (starts-of P) (l .col-starts)) (over (flat P) (l .col-rows)) (over (starts-of Q) (l .row-starts)) (over (flat Q) (l .row-cols))
-      (over rows (l .order-rows)) (over cols (l .order-cols))
+  stored P rows cols = holding (a .size) P rows cols (a .lists)
 
   -- A refusal by its number changes nothing.
   abbrev pub refusal : ℕ → Outcome

@@ -24,7 +24,7 @@ ghost use Rattle.register.specs.Marks.{unmarked};
 ghost use Rattle.register.specs.Replace.{outcome, Replaces};
 ghost use Rattle.register.specs.Reply.{number, fault, reply};
 
-// What a call refuses, in the order of the build paper's numbers.
+// What a call refuses, in the order of the build paper's numbers. The last four are the sheet reader's alone.
 pub enum Refusal {
     Size,
     ShortList,
@@ -34,6 +34,10 @@ pub enum Refusal {
     ColumnNumber,
     NewColumn,
     NoRoom,
+    SheetCut,
+    SheetNumber,
+    SheetRange,
+    SheetSurplus,
 }
 
 // What the check of a register replies.
@@ -69,6 +73,10 @@ impl Refusal {
             Refusal::ColumnNumber => 6,
             Refusal::NewColumn => 7,
             Refusal::NoRoom => 8,
+            Refusal::SheetCut => 9,
+            Refusal::SheetNumber => 10,
+            Refusal::SheetRange => 11,
+            Refusal::SheetSurplus => 12,
         }
     }
 }

@@ -82,7 +82,7 @@ fn topped(
 ) -> bool
     requires { ⌜ Good m (now cs) (now cr) × (m ≤ length (now cols)) ⌝ }
     ensures { λ answer. ⌜ Says answer
-        ((t : ℕ) → t < m → Topped m (now (places .entry)) (now (cs .entry)) (now (cr .entry)) (at (now (cols .entry)) t) t) ⌝ }
+        ((t : ℕ) → t < m → Topped m (now (places .entry)) (parts m (now (cs .entry)) (now (cr .entry))) (at (now (cols .entry)) t) t) ⌝ }
 {
     let mut t = 0;
     while t < m {

@@ -4,6 +4,7 @@ use native.Mathlib.Omega.{arith}
 use borrow.Author.Needs.{needs}
 use lib.ListN.{getD-replicate}
 use Rattle.register.proofs.Answers.{told-no, refuted, shown, says-as}
+use Rattle.register.proofs.Listings.{good-columns}
 use Rattle.register.proofs.Orders.{topped-sound, sound-topped}
 use Rattle.register.proofs.order.sound.Statement.{statement}
 use Rattle.register.proofs.order.sound.Tie as tie
@@ -18,7 +19,8 @@ returns-2 : tie.Need-returns-2
 returns-2 c =
     let L = shown (c .before .before .before .enter .ensures) (c .before .before .if1 .left) in
     let s = c .before .before .before .before .before .before .before .before .before in
-    says-as (topped-sound (s .pre .0) L _) (sound-topped (s .pre .0) L _) (c .topped .ensures)
+    let C = good-columns (s .pre .0) in
+    says-as (topped-sound C L _) (sound-topped C L _) (c .topped .ensures)
 
 pub sound-spec : {M : Type 1} → statement M
 sound-spec = tie.close (tie.spec enter-requires returns (λ c κs. search needs) returns-2)

@@ -6,17 +6,18 @@ use lib.ListN.{length}
 use borrow.Author.Needs.{needs}
 use borrow.Author.Count.{below-none, below-more}
 use mathlib.Core.List.{List}
+use Rattle.pattern.specs.Pattern.{column}
 use Rattle.pattern.specs.Places.{at}
 use Rattle.pattern.specs.Series.{greatest}
-use Rattle.register.specs.Listing.{part}
+use Rattle.register.specs.Listing.{part, parts}
 use Rattle.register.specs.Order.{Topped}
 use Rattle.register.proofs.Answers.{told-yes, told-no}
-use Rattle.register.proofs.Listings.{good-within}
+use Rattle.register.proofs.Listings.{good-columns, good-within, good-column}
 use Rattle.register.proofs.order.topped.Statement.{statement}
 use Rattle.register.proofs.order.topped.Tie as tie
 
 abbrev Inv-loop : tie.InvT-loop
-Inv-loop m cs cr cols places t₀ t = (x : ℕ) → x < t → Topped m places cs cr (at cols x) x
+Inv-loop m cs cr cols places t₀ t = (x : ℕ) → x < t → Topped m places (parts m cs cr) (at cols x) x
 
 abbrev μ-loop : tie.MeasureT-loop
 μ-loop m cs cr cols places t₀ t = m - t
@@ -29,18 +30,24 @@ module _ (c : tie.After-part Inv-loop μ-loop) where
   abbrev begun : tie.Start Inv-loop μ-loop
   begun = head .before .before .before .before
 
+  abbrev y : ℕ
+  y = at (begun .args .cols .now) (head .loop .t)
+
+  below : y < begun .args .m
+  below = omega (arith, c .before .before .wide .ensures)
+
   abbrev rows : List ℕ
-  rows = part (begun .args .cs .now) (begun .args .cr .now) (at (begun .args .cols .now) (head .loop .t))
+  rows = column (parts (begun .args .m) (begun .args .cs .now) (begun .args .cr .now)) y
 
   is-part : c .part .result .now ≡ rows
-  is-part = c .part .ensures ∙ ap (part (begun .args .cs .now) (begun .args .cr .now)) (c .before .before .wide .ensures)
+  is-part = good-column (begun .pre .0) y below (c .part .ensures ∙ ap (part (begun .args .cs .now) (begun .args .cr .now)) (c .before .before .wide .ensures))
 
   top-is : {n : ℕ} → n ≡ greatest (at (begun .args .places .now)) (c .part .result .now) → n ≡ greatest (at (begun .args .places .now)) rows
   top-is e = e ∙ ap (greatest (at (begun .args .places .now))) is-part
 
   rows-below : (k : ℕ) → k < length (c .part .result .now) → at (c .part .result .now) k < 1000
   rows-below k h =
-      let rises = begun .pre .0 .formed .rise (at (begun .args .cols .now) (head .loop .t)) (omega (arith, c .before .before .wide .ensures)) in
+      let rises = good-columns (begun .pre .0) .rise y below in
       omega (arith, begun .pre .0 .small, rises .below k (omega (arith, ap length is-part)), ap (λ (l : List ℕ). at l k) is-part)
 
 loop-holds : tie.Need-loop-holds Inv-loop μ-loop
@@ -71,7 +78,7 @@ loop-again c =
     let p = c .before .before .before in
     below-more _ _ (head p .loop .inv)
     (record {
-      below = omega (arith, p .before .before .wide .ensures);
+      below = below p;
       some = omega (arith, ap length (is-part p));
       top = sym (top-is p (c .before .top-place .ensures)) ∙ c .if3 .left;
     })
