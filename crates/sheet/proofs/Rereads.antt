@@ -1,0 +1,135 @@
+-- A row, a pair or a column that a pass reads again: it is the one that was read, and what is left is the rest.
+-- Rests on Lefts.antt.
+use mathlib.Core.List.{List, []}
+use mathlib.Core.Path.{_≡_, refl, sym, ap, _∙_}
+use Prim.Native.Nat.{ℕ, _+_, _≤_, _<_}
+use native.Mathlib.Omega.{arith}
+use lib.ListN.{length, getD, List·getD-map}
+use Rattle.pattern.specs.Pattern.{column}
+use Rattle.pattern.specs.Places.{at}
+use Rattle.register.specs.Limits.{max-total}
+use Rattle.sheet.specs.Number.{Read, got}
+use Rattle.sheet.specs.Passes.{thing, Got}
+use Rattle.sheet.specs.Reading.{row-at, rows-at, count-at, column-at, member-at, pair-at}
+use Rattle.sheet.specs.Sheet.{firsts, seconds, past, grown, counted}
+use Rattle.sheet.proofs.Lefts.{got-is, thing-is, Left, Next, left-next}
+use Rattle.sheet.proofs.Readings.{thing-same, next-same, row-got, Column-got, column-got, member-got, Pair-got, pair-got}
+
+-- What is told of a reading is what was read.
+module _ {A : Type 0} {r s : Read A} {x y : A} {n k : ℕ} (e : r ≡ s) (f : s ≡ got x n) (g : r ≡ got y k) where
+  same-thing : y ≡ x
+  same-thing = thing-same (sym g ∙ e ∙ f)
+
+  same-next : k ≡ n
+  same-next = next-same (sym g ∙ e ∙ f)
+
+-- ---- A row
+
+-- What is left of `n` rows `R`.
+abbrev pub Rows-left : (bytes : List ℕ) (m n place : ℕ) (R : List ℕ) (j least p : ℕ) → Type 0
+Rows-left bytes m = Left (row-at bytes m) past
+
+-- The row `v` has been read.
+pub record Row-met (bytes : List ℕ) (m n place : ℕ) (R : List ℕ) (j v q : ℕ) : Type 0 where
+  pub is : v ≡ at R j
+  pub below : v < m
+  pub left : Rows-left bytes m n place R (j + 1) (v + 1) q
+
+module _ (bytes : List ℕ) (m : ℕ) {n place : ℕ} {R : List ℕ} {j least p : ℕ} (l : Rows-left bytes m n place R j least p) (h : j < n)
+    {r : Read ℕ} (e : r ≡ row-at bytes m least p) where
+  row-next : Next (row-at bytes m) past n place R 0 j least p
+  row-next = left-next l 0 h
+
+  pub row-known : Got 0 r
+  row-known = got-is 0 (e ∙ row-next .read)
+
+  pub row-met : {v q : ℕ} → r ≡ got v q → Row-met bytes m n place R j v q
+  row-met k =
+      record {
+        is = same-thing e (row-next .read) k;
+        below = row-got bytes m least p (sym e ∙ k) .below;
+        left = rw (same-thing e (row-next .read) k, same-next e (row-next .read) k) (row-next .left);
+      }
+
+-- ---- A pair
+
+-- What is left of the pairs `o` of an order of size `m`.
+abbrev pub Order-left : (bytes : List ℕ) (m place : ℕ) (o : List (ℕ × ℕ)) (t p : ℕ) → Type 0
+Order-left bytes m place o t = Left (pair-at bytes m) counted m place o t t
+
+-- The row `v` and the column `w` of the next place have been read.
+pub record Pair-met (bytes : List ℕ) (m place : ℕ) (o : List (ℕ × ℕ)) (t v w q : ℕ) : Type 0 where
+  pub row-is : v ≡ at (firsts o) t
+  pub row-below : v < m
+  pub column-is : w ≡ at (seconds o) t
+  pub column-below : w < m
+  pub left : Order-left bytes m place o (t + 1) q
+
+module _ (bytes : List ℕ) (m : ℕ) {place : ℕ} {o : List (ℕ × ℕ)} {t p : ℕ} (l : Order-left bytes m place o t p) (h : t < m)
+    {r : Read ℕ} (e : r ≡ member-at bytes m p) where
+  pair-next : Next (pair-at bytes m) counted m place o (0, 0) t t p
+  pair-next = left-next l (0, 0) h
+
+  pair-read : Pair-got bytes m p (getD o t (0, 0)) (pair-next .middle)
+  pair-read = pair-got bytes m t p (pair-next .read)
+
+  pub pair-row-known : Got 0 r
+  pair-row-known = got-is 0 (e ∙ pair-read .row-read)
+
+  module _ {v q : ℕ} (k : r ≡ got v q) {r′ : Read ℕ} (e′ : r′ ≡ member-at bytes m q) where
+    column-read : member-at bytes m q ≡ got (getD o t (0, 0) .1) (pair-next .middle)
+    column-read = ap (member-at bytes m) (same-next e (pair-read .row-read) k) ∙ pair-read .column-read
+
+    pub pair-column-known : Got 0 r′
+    pair-column-known = got-is 0 (e′ ∙ column-read)
+
+    pub pair-met : {w q′ : ℕ} → r′ ≡ got w q′ → Pair-met bytes m place o t v w q′
+    pair-met k′ =
+        record {
+          row-is = same-thing e (pair-read .row-read) k ∙ sym (List·getD-map (λ (p : ℕ × ℕ). p .0) o t (0, 0));
+          row-below = member-got bytes m p (sym e ∙ k) .1;
+          column-is = same-thing e′ column-read k′ ∙ sym (List·getD-map (λ (p : ℕ × ℕ). p .1) o t (0, 0));
+          column-below = member-got bytes m q (sym e′ ∙ k′) .1;
+          left = rw (same-next e′ column-read k′) (pair-next .left);
+        }
+
+-- ---- A column
+
+-- What is left of `m` columns `P`.
+abbrev pub Columns-left : (bytes : List ℕ) (m place : ℕ) (P : List (List ℕ)) (c entries p : ℕ) → Type 0
+Columns-left bytes m = Left (column-at bytes m) grown m
+
+-- The count `n` of the next column has been read, and its rows follow at `q`.
+pub record Count-met (bytes : List ℕ) (m place : ℕ) (P : List (List ℕ)) (c entries n q : ℕ) : Type 0 where
+  pub is : n ≡ length (column P c)
+  pub few : entries + n ≤ max-total
+  pub rows-known : Got [] (rows-at bytes m n q)
+  pub rows-are : thing [] (rows-at bytes m n q) ≡ column P c
+  pub left : {q′ : ℕ} → rows-at bytes m n q ≡ got (thing [] (rows-at bytes m n q)) q′ → Columns-left bytes m place P (c + 1) (entries + n) q′
+
+module _ (bytes : List ℕ) (m : ℕ) {place : ℕ} {P : List (List ℕ)} {c entries p : ℕ} (l : Columns-left bytes m place P c entries p) (h : c < m)
+    {r : Read ℕ} (e : r ≡ count-at bytes m entries p) where
+  column-next : Next (column-at bytes m) grown m place P [] c entries p
+  column-next = left-next l [] h
+
+  next-column : Column-got bytes m entries p (column P c) (column-next .middle)
+  next-column = column-got bytes m entries p (column-next .read)
+
+  pub count-known : Got 0 r
+  count-known = got-is 0 (e ∙ next-column .count-read)
+
+  pub count-met : {n q : ℕ} → r ≡ got n q → Count-met bytes m place P c entries n q
+  count-met {n} {q} k =
+      record {
+        is = many;
+        few = omega (arith, many, next-column .few);
+        rows-known = got-is [] rows-read;
+        rows-are = thing-is [] rows-read;
+        left = λ f. rw (many, same-next refl rows-read f) (column-next .left);
+      }
+    where
+      many : n ≡ length (column P c)
+      many = same-thing e (next-column .count-read) k
+
+      rows-read : rows-at bytes m n q ≡ got (column P c) (column-next .middle)
+      rows-read = rw (many, same-next e (next-column .count-read) k) (next-column .rows-read)

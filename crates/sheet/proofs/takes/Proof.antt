@@ -1,0 +1,17 @@
+-- `takes`: one length after another.
+use native.Mathlib.Omega.{arith}
+use Rattle.register.proofs.Answers.{told-yes, told-no}
+use Rattle.sheet.proofs.takes.Statement.{statement}
+use Rattle.sheet.proofs.takes.Tie as tie
+
+pub takes-spec : {M : Type 1} → statement M
+takes-spec =
+    tie.close
+    (tie.spec
+    (λ c. told-no (λ t. omega (arith, t .col-starts-fit)))
+    (λ c. told-no (λ t. omega (arith, t .col-rows-fit)))
+    (λ c. told-no (λ t. omega (arith, t .row-starts-fit)))
+    (λ c. told-no (λ t. omega (arith, t .row-cols-fit)))
+    (λ c. told-no (λ t. omega (arith, t .order-rows-fit)))
+    (λ c. told-no (λ t. omega (arith, t .order-cols-fit)))
+    (λ c. told-yes (omega arith)))

@@ -1,0 +1,100 @@
+// The last passes over a sheet that is accepted: its register goes into the lent lists.
+use crate::items::below;
+use crate::items::count;
+use crate::items::known;
+use crate::items::row;
+use crate::items::size;
+use register::turn::turn;
+ghost use mathlib.Core.List.{[]};
+ghost use mathlib.Core.Path.{_≡_};
+ghost use Prim.Native.Nat.{ℕ, _+_, _≤_, _<_};
+ghost use lib.ListN.{length};
+ghost use Rattle.pattern.specs.Flat.{flat};
+ghost use Rattle.register.specs.Held.{over, put, Held, Takes};
+ghost use Rattle.register.specs.Lent.{lists};
+ghost use Rattle.register.specs.Limits.{max-size};
+ghost use Rattle.sheet.specs.Number.{got};
+ghost use Rattle.sheet.specs.Passes.{thing, Got, blank};
+ghost use Rattle.sheet.specs.Reading.{rows-at, columns-at, order-at, record-read};
+ghost use Rattle.sheet.specs.Sheet.{firsts, seconds, total, held-record};
+
+// The n rows of a column go to place k of the entries on; replies the place after them in the bytes.
+fn fill_rows(bytes: &[u8], place: usize, m: u32, n: u32, entries: &mut [u16], k: usize) -> usize
+    requires { ⌜ (m ≤ max-size) × Got [] (rows-at (now bytes) m n place) × (k + n ≤ length (now entries)) ⌝ }
+    ensures { λ next. ⌜ (rows-at (now (bytes .entry)) m n place ≡ got (thing [] (rows-at (now (bytes .entry)) m n place)) next)
+        × (now (entries .exit) ≡ put k (thing [] (rows-at (now (bytes .entry)) m n place)) (now (entries .entry))) ⌝ }
+{
+    let mut at = place;
+    let mut least = 0;
+    let mut i = 0;
+    while i < n {
+        let r = known(row(bytes, at, m, least));
+        entries[k + i as usize] = r.value as u16;
+        least = r.value + 1;
+        at = r.next;
+        i += 1;
+    }
+    at
+}
+
+// The column listing; replies the place after it in the bytes.
+fn fill_columns(bytes: &[u8], place: usize, m: u32, cs: &mut [u16], cr: &mut [u16]) -> usize
+    requires { ⌜ (m ≤ max-size) × Got [] (columns-at (now bytes) m place) × (m < length (now cs))
+        × (length (flat (thing [] (columns-at (now bytes) m place))) ≤ length (now cr)) ⌝ }
+    ensures { λ next. ⌜ (columns-at (now (bytes .entry)) m place ≡ got (thing [] (columns-at (now (bytes .entry)) m place)) next)
+        × Held (thing [] (columns-at (now (bytes .entry)) m place)) (now (cs .entry)) (now (cr .entry)) (now (cs .exit)) (now (cr .exit)) ⌝ }
+{
+    let mut at = place;
+    let mut entries: u32 = 0;
+    let mut c = 0;
+    while c < m {
+        cs[c as usize] = entries as u16;
+        let n = known(count(bytes, at, m, entries));
+        at = fill_rows(bytes, n.next, m, n.value, cr, entries as usize);
+        entries = entries + n.value;
+        c += 1;
+    }
+    cs[m as usize] = entries as u16;
+    at
+}
+
+// The order.
+fn fill_order(bytes: &[u8], place: usize, m: u32, rows: &mut [u16], cols: &mut [u16])
+    requires { ⌜ (m ≤ max-size) × Got [] (order-at (now bytes) m place) × (m ≤ length (now rows)) × (m ≤ length (now cols)) ⌝ }
+    ensures { λ _. ⌜ (now (rows .exit) ≡ over (firsts (thing [] (order-at (now (bytes .entry)) m place))) (now (rows .entry)))
+        × (now (cols .exit) ≡ over (seconds (thing [] (order-at (now (bytes .entry)) m place))) (now (cols .entry))) ⌝ }
+{
+    let mut at = place;
+    let mut t = 0;
+    while t < m {
+        let r = known(below(bytes, at, m));
+        let c = known(below(bytes, r.next, m));
+        rows[t as usize] = r.value as u16;
+        cols[t as usize] = c.value as u16;
+        at = c.next;
+        t += 1;
+    }
+}
+
+// The whole register of a sheet without faults.
+pub fn fill(
+    bytes: &[u8],
+    cs: &mut [u16],
+    cr: &mut [u16],
+    rs: &mut [u16],
+    rc: &mut [u16],
+    or: &mut [u16],
+    oc: &mut [u16],
+)
+    requires { ⌜ Got blank (record-read (now bytes))
+        × Takes (thing blank (record-read (now bytes)) .size) (total (thing blank (record-read (now bytes))))
+        (lists (now cs) (now cr) (now rs) (now rc) (now or) (now oc)) ⌝ }
+    ensures { λ _. ⌜ lists (now (cs .exit)) (now (cr .exit)) (now (rs .exit)) (now (rc .exit)) (now (or .exit)) (now (oc .exit))
+        ≡ held-record (thing blank (record-read (now (bytes .entry))))
+        (lists (now (cs .entry)) (now (cr .entry)) (now (rs .entry)) (now (rc .entry)) (now (or .entry)) (now (oc .entry))) ⌝ }
+{
+    let m = known(size(bytes));
+    let order = fill_columns(bytes, m.next, m.value, cs, cr);
+    fill_order(bytes, order, m.value, or, oc);
+    turn(m.value as usize, cs, cr, rs, rc);
+}

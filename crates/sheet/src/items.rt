@@ -1,0 +1,91 @@
+// The numbers of a sheet with their ranges: the size, a count, a row of a column, a row or a column of the order.
+use crate::number::Number;
+use crate::number::read_number;
+use register::Refusal;
+use register::Register;
+ghost use mathlib.Core.Path.{_≡_};
+ghost use Prim.Native.Nat.{ℕ, _≤_};
+ghost use lib.Dec.{ltb};
+ghost use Rattle.register.specs.Limits.{max-size, max-total};
+ghost use Rattle.sheet.specs.Number.{got};
+ghost use Rattle.sheet.specs.Passes.{Got};
+ghost use Rattle.sheet.specs.Reading.{number-that, size-at, row-at, count-at};
+ghost use Rattle.sheet.specs.Reply.{told};
+
+// A number that was read, and the place after it.
+pub struct Step {
+    pub value: u32,
+    pub next: usize,
+}
+
+// What was read, where it is known to be no fault.
+pub fn known(read: Number) -> Step
+    requires { ⌜ Got 0 (told read) ⌝ }
+    ensures { λ r. ⌜ told read ≡ got (r .value) (r .next) ⌝ }
+{
+    match read {
+        Number::Value { value, next } => Step { value, next },
+        Number::Fault { reply, place } => Step {
+            value: 0,
+            next: place,
+        },
+    }
+}
+
+// A number below the limit, or a range fault. The order's rows and columns are such, with the size as the limit.
+pub fn below(bytes: &[u8], place: usize, limit: u32) -> Number
+    ensures { λ r. ⌜ told r ≡ number-that (now (bytes .entry)) (λ (v : ℕ). ltb v limit) 11 place ⌝ }
+{
+    let read = read_number(bytes, place);
+    if let Number::Value { value, next } = read {
+        if limit <= value {
+            return Number::Fault {
+                reply: Refusal::SheetRange,
+                place,
+            };
+        }
+    }
+    read
+}
+
+// The size.
+pub fn size(bytes: &[u8]) -> Number
+    ensures { λ r. ⌜ told r ≡ size-at (now (bytes .entry)) 0 ⌝ }
+{
+    let read = read_number(bytes, 0);
+    if let Number::Value { value, next } = read {
+        if value == 0 || Register::MAX_SIZE < value as usize {
+            return Number::Fault {
+                reply: Refusal::Size,
+                place: 0,
+            };
+        }
+    }
+    read
+}
+
+// A column's count, after so many entries of the columns before it.
+pub fn count(bytes: &[u8], place: usize, m: u32, entries: u32) -> Number
+    requires { ⌜ (m ≤ max-size) × (entries ≤ max-total) ⌝ }
+    ensures { λ r. ⌜ told r ≡ count-at (now (bytes .entry)) m entries place ⌝ }
+{
+    let room = Register::MAX_TOTAL as u32 - entries;
+    if room < m {
+        return below(bytes, place, room + 1);
+    }
+    below(bytes, place, m + 1)
+}
+
+// A row of a column, which is at least `least`.
+pub fn row(bytes: &[u8], place: usize, m: u32, least: u32) -> Number
+    requires { ⌜ (m ≤ max-size) × (least ≤ m) ⌝ }
+    ensures { λ r. ⌜ told r ≡ row-at (now (bytes .entry)) m least place ⌝ }
+{
+    match below(bytes, place, m - least) {
+        Number::Value { value, next } => Number::Value {
+            value: least + value,
+            next,
+        },
+        Number::Fault { reply, place } => Number::Fault { reply, place },
+    }
+}
