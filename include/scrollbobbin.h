@@ -1,5 +1,6 @@
 /*
- * Scrollbobbin: a register of one square sparse pattern, and the replacement of one of its columns.
+ * Scrollbobbin: a register of one square sparse pattern, the replacement of one of its columns, and
+ * its sheet, by which two offices hold one record.
  *
  * A pattern says where a square matrix has entries, and not which numbers they are: an entry that
  * is present counts as nonzero. The register lists the pattern by columns and again by rows, with
@@ -32,14 +33,15 @@
  * place t) has s at most t. The register is sound if all of this holds.
  *
  *
- * Each list is passed as a pointer and then its length, which counts places of 16 bits. A list may
- * be longer than the register needs. The places past what the register uses after a call keep what
+ * Each list is passed as a pointer and then its length, which counts places of 16 bits, or bytes
+ * where the list is a sheet's. A list may be longer than the register needs. The places past what the register uses after a call keep what
  * they held before it, also where the register shrinks.
  *
  *   - No pointer may be null, not even that of a list of length 0.
  *   - What a call may write to, which is behind every pointer without const, overlaps with nothing
  *     else that the call is given. So the lists of scrollbobbin_replace are eight distinct lists,
- *     the new rows among them, and its two numbers lie in none of them.
+ *     the new rows among them, and its two numbers lie in none of them; and a sheet lies in none of
+ *     the lists that it is read into.
  *   - While a call runs, no other thread writes to its lists, or reads what the call may write to.
  *
  * Nothing else is asked of the caller. Whatever the lists hold, a call reads and writes no place
@@ -60,12 +62,14 @@ extern "C" {
 #define SCROLLBOBBIN_MAX_TOTAL 12000
 
 /*
- * The replies. 1 to 8 are refusals: of those that apply, the one with the lowest number is given,
- * and a refused call changes no list. 100 to 102 are the verdicts of scrollbobbin_replace.
+ * The replies. 1 to 12 are refusals, and a refused call changes no list. Of those that apply the one
+ * with the lowest number is given, but for scrollbobbin_read_sheet, which has an order of its own.
+ * 100 to 102 are the verdicts of scrollbobbin_replace.
  */
 enum scrollbobbin_reply {
-    /* The register is sound: a reply of scrollbobbin_check alone. */
+    /* The register is sound, the sheet is written, or it is read. */
     SCROLLBOBBIN_SOUND = 0,
+    SCROLLBOBBIN_DONE = 0,
 
     /* The size is 0 or over 1,000. */
     SCROLLBOBBIN_SIZE = 1,
@@ -83,9 +87,18 @@ enum scrollbobbin_reply {
     SCROLLBOBBIN_COLUMN_NUMBER = 6,
     /* A new row is m or more, or the new rows are not strictly rising. */
     SCROLLBOBBIN_NEW_COLUMN = 7,
-    /* The total with the new column in the old one's stead, before any row is cleared, is over
-     * 12,000 or over the length of either entry list. */
+    /* Replacement: the total with the new column in the old one's stead, before any row is cleared,
+     * is over 12,000 or over the length of either entry list. Sheet writer: the byte list is too
+     * short. */
     SCROLLBOBBIN_NO_ROOM = 8,
+    /* The bytes end inside or before a needed number. */
+    SCROLLBOBBIN_SHEET_CUT = 9,
+    /* A second or third group ends the number and is zero, or a third group has its high bit set. */
+    SCROLLBOBBIN_SHEET_NUMBER = 10,
+    /* A count over m, a row or column m or more, or a total over 12,000. */
+    SCROLLBOBBIN_SHEET_RANGE = 11,
+    /* Bytes remain after the last number. */
+    SCROLLBOBBIN_SHEET_SURPLUS = 12,
 
     SCROLLBOBBIN_SINGULAR = 100,
     SCROLLBOBBIN_PERMUTED = 101,
@@ -166,6 +179,56 @@ size_t scrollbobbin_replace(
     uint16_t *eta, size_t eta_length,
     size_t *bump,
     size_t *eta_count);
+
+/*
+ * The sheet of a register is a list of bytes. Its numbers stand in groups of seven bits, the lowest
+ * group first, with the high bit set on every group but the last, in the shortest form and in three
+ * groups at most. In order: the size; for each column its count, its first row, and for each further
+ * row the gap to the one before less 1; then for each place its row and its column. The row listing
+ * follows from these and is not in the sheet.
+ *
+ * A register of size 2 with the columns {0} and {0, 1} and the order 0:0 1:1 has the sheet
+ * 02 01 00 02 00 00 00 00 01 01.
+ *
+ * A sound register has one sheet, no other register has that sheet, and a sheet that is accepted is
+ * the one that would be written of what was read.
+ */
+
+/*
+ * Writes the sheet of a register to the head of the bytes: SCROLLBOBBIN_DONE, with *count the number
+ * of bytes, or a refusal of 1 to 5 or 8, with *count 0. The bytes past *count keep what they held,
+ * and a refused call changes none. *count is always written.
+ */
+size_t scrollbobbin_write_sheet(
+    size_t size,
+    const uint16_t *col_starts, size_t col_starts_length,
+    const uint16_t *col_rows, size_t col_rows_length,
+    const uint16_t *row_starts, size_t row_starts_length,
+    const uint16_t *row_cols, size_t row_cols_length,
+    const uint16_t *order_rows, size_t order_rows_length,
+    const uint16_t *order_cols, size_t order_cols_length,
+    uint8_t *bytes, size_t bytes_length,
+    size_t *count);
+
+/*
+ * Reads a sheet, which is all of the bytes, into the lists: SCROLLBOBBIN_DONE, with *size the size of
+ * the register that they now hold, which is sound; or a refusal, with *size 0. What the lists held
+ * before is of no account.
+ *
+ * The faults are told in reading order: 9 and 10 at a number, then 1 if it is the size and 0 or over
+ * 1,000, and 11 elsewhere. A total over 12,000 is found at the count that takes it there, before
+ * that column's rows are read. Then 12; then 2, by what the register that was read needs; then 5. A
+ * refused call changes no list. *size is always written.
+ */
+size_t scrollbobbin_read_sheet(
+    const uint8_t *bytes, size_t bytes_length,
+    uint16_t *col_starts, size_t col_starts_length,
+    uint16_t *col_rows, size_t col_rows_length,
+    uint16_t *row_starts, size_t row_starts_length,
+    uint16_t *row_cols, size_t row_cols_length,
+    uint16_t *order_rows, size_t order_rows_length,
+    uint16_t *order_cols, size_t order_cols_length,
+    size_t *size);
 
 #ifdef __cplusplus
 }

@@ -1,6 +1,6 @@
 /* The library through its header, as a C program has it: a check, looks, the first replacement of
- * the build paper's example, and a refusal. Every list has places to spare, which must keep what
- * they held. */
+ * the build paper's example, a refusal, and the paper's sheet written and read. Every list has
+ * places to spare, which must keep what they held. */
 #include "scrollbobbin.h"
 
 #include <stdio.h>
@@ -75,6 +75,19 @@ static size_t look(const struct lists *l, size_t column, size_t *begin) {
     return scrollbobbin_look(3, LENT(l->col_starts), LENT(l->col_rows), column, begin);
 }
 
+static size_t write_sheet(
+    size_t size, const struct lists *l, uint8_t *bytes, size_t length, size_t *count) {
+    return scrollbobbin_write_sheet(
+        size, LENT(l->col_starts), LENT(l->col_rows), LENT(l->row_starts), LENT(l->row_cols),
+        LENT(l->order_rows), LENT(l->order_cols), bytes, length, count);
+}
+
+static size_t read_sheet(const uint8_t *bytes, size_t length, struct lists *l, size_t *size) {
+    return scrollbobbin_read_sheet(
+        bytes, length, LENT(l->col_starts), LENT(l->col_rows), LENT(l->row_starts), LENT(l->row_cols),
+        LENT(l->order_rows), LENT(l->order_cols), size);
+}
+
 #define SAME(list) (memcmp(got->list, wanted->list, sizeof got->list) == 0)
 
 static void expect_lists(const struct lists *got, const struct lists *wanted) {
@@ -91,6 +104,53 @@ static void expect_reply(struct reply got, size_t result, size_t bump, size_t et
     expect("the result of a replacement", got.result == result);
     expect("its bump", got.bump == bump);
     expect("its eta count", got.eta_count == eta_count);
+}
+
+/* Size 2, columns 0:{0} 1:{0,1}, order t:t, and its sheet. */
+static const struct lists PAIR = {
+    {0, 1, 3, 7777, SPARE},
+    {0, 0, 1, 7777, 7777, 7777, SPARE},
+    {0, 2, 3, 7777, SPARE},
+    {0, 1, 1, 7777, 7777, 7777, SPARE},
+    {0, 1, 7777, SPARE},
+    {0, 1, 7777, SPARE},
+    {7777, 7777, 7777, SPARE},
+};
+static const struct lists EMPTY = {
+    {7777, 7777, 7777, 7777, SPARE},
+    {7777, 7777, 7777, 7777, 7777, 7777, SPARE},
+    {7777, 7777, 7777, 7777, SPARE},
+    {7777, 7777, 7777, 7777, 7777, 7777, SPARE},
+    {7777, 7777, 7777, SPARE},
+    {7777, 7777, 7777, SPARE},
+    {7777, 7777, 7777, SPARE},
+};
+static const uint8_t SHEET[] = {2, 1, 0, 2, 0, 0, 0, 0, 1, 1};
+
+static void expect_sheet(void) {
+    struct lists l = EMPTY;
+    uint8_t bytes[12], untouched[12];
+    size_t count = 55, size = 55;
+    memset(untouched, 77, sizeof untouched);
+    memcpy(bytes, untouched, sizeof bytes);
+
+    expect("no room for a sheet",
+        write_sheet(2, &PAIR, bytes, sizeof SHEET - 1, &count) == SCROLLBOBBIN_NO_ROOM);
+    expect("no byte count", count == 0);
+    expect("no byte written", memcmp(bytes, untouched, sizeof bytes) == 0);
+
+    expect("a sheet written", write_sheet(2, &PAIR, bytes, sizeof bytes, &count) == SCROLLBOBBIN_DONE);
+    expect("its byte count", count == sizeof SHEET);
+    expect("its bytes", memcmp(bytes, SHEET, sizeof SHEET) == 0);
+    expect("the bytes beyond", memcmp(bytes + 10, untouched + 10, 2) == 0);
+
+    expect("a sheet cut", read_sheet(SHEET, sizeof SHEET - 1, &l, &size) == SCROLLBOBBIN_SHEET_CUT);
+    expect("no size", size == 0);
+    expect_lists(&l, &EMPTY);
+
+    expect("a sheet read", read_sheet(SHEET, sizeof SHEET, &l, &size) == SCROLLBOBBIN_DONE);
+    expect("its size", size == 2);
+    expect_lists(&l, &PAIR);
 }
 
 int main(void) {
@@ -113,6 +173,8 @@ int main(void) {
 
     expect_reply(replace(&l, 3, rows, LENGTH(rows)), SCROLLBOBBIN_COLUMN_NUMBER, 0, 0);
     expect_lists(&l, &ELIMINATED);
+
+    expect_sheet();
 
     printf("%u passed, %u failed\n", passed, failed);
     return failed != 0;

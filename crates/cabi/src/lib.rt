@@ -1,4 +1,6 @@
 // The register for C: numbers and lists alone. A list comes as a pointer and a length, as include/scrollbobbin.h has it.
+mod sheets;
+
 use register::Checked;
 use register::Judgment;
 use register::Register;
