@@ -34,8 +34,8 @@
  *
  *
  * Each list is passed as a pointer and then its length, which counts places of 16 bits, or bytes
- * where the list is a sheet's. A list may be longer than the register needs. The places past what the register uses after a call keep what
- * they held before it, also where the register shrinks.
+ * where the list is a sheet. A list may be longer than the register needs. The places past what the
+ * register uses after a call keep what they held before it, also where the register shrinks.
  *
  *   - No pointer may be null, not even that of a list of length 0.
  *   - What a call may write to, which is behind every pointer without const, overlaps with nothing
@@ -62,9 +62,9 @@ extern "C" {
 #define SCROLLBOBBIN_MAX_TOTAL 12000
 
 /*
- * The replies. 1 to 12 are refusals, and a refused call changes no list. Of those that apply the one
- * with the lowest number is given, but for scrollbobbin_read_sheet, which has an order of its own.
- * 100 to 102 are the verdicts of scrollbobbin_replace.
+ * The replies. 1 to 12 are refusals, and a refused call changes no list. Of those that apply the
+ * one with the lowest number is given, but for scrollbobbin_read_sheet, which has an order of its
+ * own. 100 to 102 are the verdicts of scrollbobbin_replace.
  */
 enum scrollbobbin_reply {
     /* The register is sound, the sheet is written, or it is read. */
@@ -93,7 +93,8 @@ enum scrollbobbin_reply {
     SCROLLBOBBIN_NO_ROOM = 8,
     /* The bytes end inside or before a needed number. */
     SCROLLBOBBIN_SHEET_CUT = 9,
-    /* A second or third group ends the number and is zero, or a third group has its high bit set. */
+    /* A second or third group ends the number and is zero, or a third group has its high bit
+     * set. */
     SCROLLBOBBIN_SHEET_NUMBER = 10,
     /* A count over m, a row or column m or more, or a total over 12,000. */
     SCROLLBOBBIN_SHEET_RANGE = 11,
@@ -183,9 +184,9 @@ size_t scrollbobbin_replace(
 /*
  * The sheet of a register is a list of bytes. Its numbers stand in groups of seven bits, the lowest
  * group first, with the high bit set on every group but the last, in the shortest form and in three
- * groups at most. In order: the size; for each column its count, its first row, and for each further
- * row the gap to the one before less 1; then for each place its row and its column. The row listing
- * follows from these and is not in the sheet.
+ * groups at most. In order: the size; for each column its count, its first row, and for each
+ * further row the gap to the one before less 1 (no first row where the count is 0); then for each
+ * place its row and its column. The row listing follows from these and is not in the sheet.
  *
  * A register of size 2 with the columns {0} and {0, 1} and the order 0:0 1:1 has the sheet
  * 02 01 00 02 00 00 00 00 01 01.
@@ -195,9 +196,9 @@ size_t scrollbobbin_replace(
  */
 
 /*
- * Writes the sheet of a register to the head of the bytes: SCROLLBOBBIN_DONE, with *count the number
- * of bytes, or a refusal of 1 to 5 or 8, with *count 0. The bytes past *count keep what they held,
- * and a refused call changes none. *count is always written.
+ * Writes the sheet of a register to the head of the bytes: SCROLLBOBBIN_DONE, with *count the
+ * number of bytes, or a refusal of 1 to 5 or 8, with *count 0. The bytes past *count keep what they
+ * held, and a refused call changes none. *count is always written.
  */
 size_t scrollbobbin_write_sheet(
     size_t size,
@@ -211,14 +212,14 @@ size_t scrollbobbin_write_sheet(
     size_t *count);
 
 /*
- * Reads a sheet, which is all of the bytes, into the lists: SCROLLBOBBIN_DONE, with *size the size of
- * the register that they now hold, which is sound; or a refusal, with *size 0. What the lists held
- * before is of no account.
+ * Reads a sheet, which is all of the bytes, into the lists: SCROLLBOBBIN_DONE, with *size the size
+ * of the register that they now hold, which is sound; or a refusal, with *size 0. What the lists
+ * held before is of no account.
  *
- * The faults are told in reading order: 9 and 10 at a number, then 1 if it is the size and 0 or over
- * 1,000, and 11 elsewhere. A total over 12,000 is found at the count that takes it there, before
- * that column's rows are read. Then 12; then 2, by what the register that was read needs; then 5. A
- * refused call changes no list. *size is always written.
+ * The faults are told in reading order: 9 and 10 at a number, then 1 if it is the size and 0 or
+ * over 1,000, and 11 elsewhere. A total over 12,000 is found at the count that takes it there,
+ * before that column's rows are read. Then 12; then 2, by what the register that was read needs;
+ * then 5. A refused call changes no list. *size is always written.
  */
 size_t scrollbobbin_read_sheet(
     const uint8_t *bytes, size_t bytes_length,

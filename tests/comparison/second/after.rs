@@ -4,7 +4,7 @@
 use crate::call::Lists;
 use crate::register::{narrow, Register};
 
-pub fn over(new: Vec<u16>, old: &[u16]) -> Vec<u16> {
+pub fn over<T: Clone>(new: Vec<T>, old: &[T]) -> Vec<T> {
     let beyond = old.get(new.len()..).unwrap_or(&[]);
     [&new, beyond].concat()
 }

@@ -1,7 +1,8 @@
-// The library's three functions as C has them, each behind a safe function. Every list is lent with
-// edges on both sides that nobody may write to, because a lent list alone would not show it.
+// The library's check, look and replacement as C has them, each behind a safe function that lends
+// every list with edges.
 
 use crate::call::{Call, Lists, Outcome};
+use crate::lent::Lent;
 
 extern "C" {
     fn scrollbobbin_check(
@@ -54,39 +55,11 @@ extern "C" {
     ) -> usize;
 }
 
-const EDGE: [u16; 4] = [0xA5C3, 0x5A3C, 0xC3A5, 0x3C5A];
-
-struct Lent {
-    places: Vec<u16>,
-    len: usize,
-}
-
-impl Lent {
-    fn new(list: &[u16]) -> Lent {
-        Lent {
-            places: [&EDGE, list, &EDGE].concat(),
-            len: list.len(),
-        }
-    }
-
-    fn at(&mut self) -> *mut u16 {
-        self.places[EDGE.len()..].as_mut_ptr()
-    }
-
-    fn list(&self) -> Vec<u16> {
-        self.places[EDGE.len()..][..self.len].to_vec()
-    }
-
-    fn edges_kept(&self) -> bool {
-        self.places.starts_with(&EDGE) && self.places.ends_with(&EDGE)
-    }
-}
-
-fn lend(lists: &Lists) -> [Lent; 7] {
+pub fn lend(lists: &Lists) -> [Lent<u16>; 7] {
     lists.named().map(|(_, list)| Lent::new(list))
 }
 
-fn take_back(lent: &[Lent; 7]) -> Lists {
+pub fn take_back(lent: &[Lent<u16>; 7]) -> Lists {
     Lists {
         col_starts: lent[0].list(),
         col_rows: lent[1].list(),
@@ -117,8 +90,8 @@ pub fn replace(call: &Call) -> Outcome {
 
 unsafe fn raw_replace(
     call: &Call,
-    lent: &mut [Lent; 7],
-    new_rows: &mut Lent,
+    lent: &mut [Lent<u16>; 7],
+    new_rows: &mut Lent<u16>,
     bump: &mut usize,
     eta_count: &mut usize,
 ) -> usize {

@@ -11,7 +11,7 @@ mod triangle;
 use crate::call::{Call, Lists, Outcome, ELIMINATION, PERMUTED, SINGULAR, SIZE_LIMIT};
 use crate::register::{by_row, Entries, Register};
 
-pub use after::over;
+pub use after::{lists as lists_after, over};
 pub use checks::register_fault;
 pub use reach::reach;
 

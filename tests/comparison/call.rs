@@ -1,6 +1,8 @@
 // One call of the replacement and one outcome, as plain data, and how they are told in full so
 // that a difference can be made again from what is printed.
 
+use crate::told::{first_number, first_place, told, told_after, told_spilled, Named, SPILLED};
+
 pub const SIZE_LIMIT: usize = 1_000;
 pub const TOTAL_LIMIT: usize = 12_000;
 
@@ -38,7 +40,7 @@ pub struct Outcome {
 }
 
 impl Lists {
-    pub fn named(&self) -> [(&'static str, &Vec<u16>); 7] {
+    pub fn named(&self) -> [Named<'_, u16>; 7] {
         [
             ("col_starts", &self.col_starts),
             ("col_rows", &self.col_rows),
@@ -48,6 +50,12 @@ impl Lists {
             ("order_cols", &self.order_cols),
             ("eta", &self.eta),
         ]
+    }
+
+    // The lists of the register itself: a sheet has to do with no eta list.
+    pub fn six(&self) -> [Named<'_, u16>; 6] {
+        let [a, b, c, d, e, f, _] = self.named();
+        [a, b, c, d, e, f]
     }
 
     pub fn each(&mut self) -> [&mut Vec<u16>; 7] {
@@ -67,31 +75,16 @@ impl Call {
     pub fn told(&self) -> String {
         let mut text = format!("  size {}\n  column {}\n", self.size, self.column);
         text += &format!("  new rows {:?}\n", self.new_rows);
-        for (name, list) in self.lists.named() {
-            text += &format!("  {name} ({} places) {list:?}\n", list.len());
-        }
-        text
+        text + &told(&self.lists.named())
     }
 }
 
 impl Outcome {
-    // Lists that the call left alone are not told again.
     pub fn told(&self, before: &Lists) -> String {
         let mut text = format!("  reply {}", reply_name(self.reply));
         text += &format!(", bump {}, eta count {}", self.bump, self.eta_count);
-        text += if self.spilled {
-            ", wrote outside the lent lists\n"
-        } else {
-            "\n"
-        };
-        for ((name, now), (_, then)) in self.lists.named().iter().zip(before.named()) {
-            if *now == then {
-                text += &format!("  {name} unchanged\n");
-            } else {
-                text += &format!("  {name} {now:?}\n");
-            }
-        }
-        text
+        text += told_spilled(self.spilled);
+        text + &told_after(&self.lists.named(), &before.named())
     }
 
     // The first thing in which this outcome is not the wanted one.
@@ -101,18 +94,9 @@ impl Outcome {
             ("bump", self.bump, wanted.bump),
             ("eta count", self.eta_count, wanted.eta_count),
         ];
-        for (name, got, want) in numbers {
-            if got != want {
-                return format!("{name} is {got} and not {want}");
-            }
-        }
-        for ((name, got), (_, want)) in self.lists.named().iter().zip(wanted.lists.named()) {
-            if let Some(place) = (0..want.len()).find(|&at| got.get(at) != want.get(at)) {
-                let (got, want) = (got.get(place), want[place]);
-                return format!("{name} has {got:?} at place {place} and not {want}");
-            }
-        }
-        "something was written outside the lent lists".to_string()
+        first_number(&numbers)
+            .or_else(|| first_place(&self.lists.named(), &wanted.lists.named()))
+            .unwrap_or(SPILLED.to_string())
     }
 }
 

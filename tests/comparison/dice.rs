@@ -39,6 +39,10 @@ impl Dice {
         (0..length).map(|_| self.below(limit) as u16).collect()
     }
 
+    pub fn bytes(&mut self, length: usize) -> Vec<u8> {
+        (0..length).map(|_| self.below(0x100) as u8).collect()
+    }
+
     // Each number below the size once, in random order.
     pub fn shuffled(&mut self, size: usize) -> Vec<usize> {
         let mut list: Vec<usize> = (0..size).collect();

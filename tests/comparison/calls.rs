@@ -50,7 +50,7 @@ pub fn lend(dice: &mut Dice, register: &Register, column: usize, new_rows: Vec<u
     }
 }
 
-fn spare(dice: &mut Dice) -> usize {
+pub fn spare(dice: &mut Dice) -> usize {
     match dice.below(4) {
         0 | 1 => 0,
         2 => 1 + dice.below(4),

@@ -1,5 +1,5 @@
-// The tests of the replacement, the check and the look. Each group compares the library with the
-// second program, which shares no method with it, and counts as one test.
+// The tests of the replacement, the check, the look and the sheet. Each group compares the library
+// with the second program, which shares no method with it, and counts as one test.
 
 mod call;
 mod calls;
@@ -11,6 +11,7 @@ mod dice;
 mod every;
 mod group;
 mod large;
+mod lent;
 mod limits;
 mod looks;
 mod random;
@@ -18,13 +19,15 @@ mod register;
 mod registers;
 mod runs;
 mod second;
+mod sheet;
 mod specimens;
+mod told;
 
 use group::Group;
 
 const SEED: u64 = 20170417;
 
-const GROUPS: [(&str, fn(&mut Group)); 16] = [
+const GROUPS: [(&str, fn(&mut Group)); 28] = [
     ("specimens s1 to s12", specimens::table),
     ("running example", specimens::example),
     ("all permutation pairs to size 4", every::group),
@@ -41,6 +44,18 @@ const GROUPS: [(&str, fn(&mut Group)); 16] = [
     ("check", looks::check),
     ("look on registers", looks::registers),
     ("look on rubbish", looks::rubbish),
+    ("sheets by hand", sheet::by_hand::group),
+    ("sheets there and back", sheet::trips::group),
+    ("sheets with every byte changed", sheet::bytes::every),
+    ("sheets with several bytes changed", sheet::bytes::several),
+    ("sheets with one number wrong", sheet::misfits::group),
+    ("random numbers as sheets", sheet::shapes::group),
+    ("sheets of some 12,000 entries", sheet::totals::group),
+    ("sheets into short lists", sheet::short::group),
+    ("one damage before a write", sheet::damaged::one),
+    ("several damages before a write", sheet::damaged::several),
+    ("sheets of full size", sheet::full::group),
+    ("sheets and lists past 65,535", sheet::long::group),
 ];
 
 fn main() {

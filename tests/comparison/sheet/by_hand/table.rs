@@ -1,0 +1,182 @@
+// Small sheets and the reader's reply to each, written out by hand. The lists are long enough but
+// where their lengths are given.
+
+#[rustfmt::skip]
+pub const SHEETS: &[(&str, usize, &str)] = &[
+    // The size number: its form, then its range.
+    ("", 9, "no bytes"),
+    ("80", 9, "one group of the size"),
+    ("80 80", 9, "two groups of the size"),
+    ("ff ff", 9, "two full groups of the size"),
+    ("80 80 80", 10, "a third group goes on, at the end of the bytes"),
+    ("ff ff ff", 10, "a third group goes on, with a size too large"),
+    ("ff ff ff 7f", 10, "four groups"),
+    ("81 80 80 00", 10, "size 1 in four groups"),
+    ("80 00", 10, "0 in two groups, before reply 1"),
+    ("80 80 00", 10, "0 in three groups, before reply 1"),
+    ("81 00 01 00 00 00", 10, "size 1 in two groups"),
+    ("81 80 00 01 00 00 00", 10, "size 1 in three groups"),
+    ("e9 87 00", 10, "size 1,001 in three groups, before reply 1"),
+    ("00", 1, "size 0"),
+    ("00 00", 1, "size 0 before a surplus"),
+    ("00 80 00", 1, "size 0 before a number that is none"),
+    ("e8 07", 9, "size 1,000 and no more"),
+    ("e9 07", 1, "size 1,001 and no more"),
+    ("e9 07 80 00", 1, "size 1,001 before a number that is none"),
+    ("ff 7f", 1, "the greatest size of two groups"),
+    ("80 80 01", 1, "the least size of three groups"),
+    ("ff ff 7f", 1, "the greatest size of three groups"),
+    ("80 80 04", 1, "size 65,536"),
+    ("81 80 04 01 00 00 00", 1, "size 65,537, which is 1 in 16 bits"),
+    // Size 1, cut, with surplus, and with each number of a wrong form or range.
+    ("01 01 00 00 00", 0, "the least register"),
+    ("01", 9, "cut before the count"),
+    ("01 01", 9, "cut before the row"),
+    ("01 01 00", 9, "cut before the order's row"),
+    ("01 01 00 00", 9, "cut before the order's column"),
+    ("01 01 00 00 80", 9, "cut inside the order's column"),
+    ("01 01 00 00 80 80", 9, "cut inside the order's column, later"),
+    ("01 01 00 00 00 00", 12, "one byte more"),
+    ("01 01 00 00 00 80", 12, "one group more that goes on"),
+    ("01 01 00 00 00 80 00", 12, "more, and of a wrong form"),
+    ("01 01 00 00 00 ff ff ff ff", 12, "four groups more"),
+    ("01 80", 9, "cut inside the count"),
+    ("01 80 80", 9, "cut inside the count, later"),
+    ("01 80 80 80", 10, "a count of too many groups"),
+    ("01 ff ff", 9, "cut inside the count, which is too large already"),
+    ("01 ff ff ff", 10, "a count of too many groups, which is too large already"),
+    ("01 ff ff 00", 10, "a count with a zero group, which is too large already"),
+    ("01 81 00 00 00 00", 10, "count 1 in two groups"),
+    ("01 81 80 00 00 00 00", 10, "count 1 in three groups"),
+    ("01 82 00", 10, "count 2 in two groups, before its range"),
+    ("01 02", 11, "count over m, before a cut"),
+    ("01 02 80 00", 11, "count over m, before a row of a wrong form"),
+    ("01 02 01", 11, "count over m, before a row out of range"),
+    ("01 02 00 00 00 00", 11, "count over m, all numbers there"),
+    ("01 ff ff 7f", 11, "the greatest count"),
+    ("01 81 80 04 00 00 00", 11, "count 65,537, which is 1 in 16 bits"),
+    ("01 80 80 04 00 00", 11, "count 65,536, which is 0 in 16 bits"),
+    ("01 01 01", 11, "row m, before a cut"),
+    ("01 01 01 80 00", 11, "row m, before a number of a wrong form"),
+    ("01 01 80 00 00 00", 10, "row 0 in two groups"),
+    ("01 01 81 00", 10, "row 1 in two groups, before its range"),
+    ("01 01 81", 9, "cut inside row 1 or more"),
+    ("01 01 ff ff ff", 10, "a row of too many groups, which is too large already"),
+    ("01 01 ff ff 7f", 11, "the greatest row"),
+    ("01 01 80 80 04 00 00", 11, "row 65,536, which is 0 in 16 bits"),
+    ("01 01 00 01", 11, "order's row m, before a cut"),
+    ("01 01 00 01 00", 11, "order's row m"),
+    ("01 01 00 80 00 00", 10, "order's row in two groups"),
+    ("01 01 00 ff ff 7f 00", 11, "the greatest order's row"),
+    ("01 01 00 80 80 04 00", 11, "order's row 65,536"),
+    ("01 01 00 00 01", 11, "order's column m"),
+    ("01 01 00 00 01 00", 11, "the last number's range, before a surplus"),
+    ("01 01 00 00 80 00", 10, "order's column in two groups"),
+    ("01 01 00 00 80 00 00", 10, "the last number's form, before a surplus"),
+    ("01 01 00 00 ff ff 7f", 11, "the greatest order's column"),
+    ("01 01 00 00 80 80 04", 11, "order's column 65,536"),
+    // A column of no rows has no first row, and is well formed.
+    ("01 00", 9, "no rows, and cut"),
+    ("01 00 00", 9, "no rows, cut before the order's column"),
+    ("01 00 00 00", 5, "no rows"),
+    ("01 00 01 00", 11, "no rows, before the order's range"),
+    ("01 00 00 00 00", 12, "no rows, with a surplus"),
+    ("02 00 01 00 00 00 01 01", 5, "the first column has no rows"),
+    ("02 01 00 00 00 00 01 01", 5, "the last column has no rows"),
+    ("02 00 02 00 00 00 01 01 00", 5, "no rows, and the other column has all"),
+    // Gaps: the sum is row m or more, also where it would go round.
+    ("02 02 00 00 01 01 01 01 00 00", 0, "gap 0"),
+    ("02 02 00 01", 11, "row 0 and gap 1"),
+    ("02 02 01 00", 11, "row 1 and gap 0"),
+    ("02 02 01", 9, "cut before a gap"),
+    ("02 02 00 80 00", 10, "gap 0 in two groups"),
+    ("02 02 00 ff ff 7f", 11, "the greatest gap"),
+    ("02 02 00 ff ff 03", 11, "row 0 and gap 65,535: round to 0"),
+    ("02 02 00 80 80 04 01 01 01 01 00 00", 11, "gap 65,536, which is 0 in 16 bits"),
+    ("02 02 01 fe ff 03 01 01 00 00 01 01", 11, "row 1 and gap 65,534: round to 0"),
+    ("02 02 01 ff ff 03 01 01 00 00 01 01", 11, "row 1 and gap 65,535: round to 1"),
+    ("e8 07 02 e7 07 98 f8 03", 11, "row 999 and gap 64,536: round to 0"),
+    ("e8 07 02 e7 07 97 f8 03", 11, "row 999 and gap 64,535: 65,535"),
+    ("e8 07 02 e7 07 00", 11, "row 1,000 of size 1,000"),
+    ("e8 07 02 e6 07 00", 9, "row 999 of size 1,000"),
+    // Orders.
+    ("02 01 00 02 00 00 00 00 00 01", 5, "order's row 0 twice"),
+    ("02 01 00 02 00 00 01 00 01 01", 5, "order's row 1 twice"),
+    ("02 01 00 02 00 00 00 00 01 00", 5, "order's column 0 twice"),
+    ("02 01 00 01 00 00 00 00 01", 5, "order's row 0 twice, and each pair is an entry"),
+    ("02 02 00 00 00 00 00 01 00", 5, "order's column 0 twice, and each pair is an entry"),
+    ("02 01 00 01 01 00 00 00 00", 5, "one pair twice, and the other missing"),
+    ("02 01 00 02 00 00 01 01 00 00", 5, "an entry under the diagonal"),
+    ("02 01 00 02 00 00 00 01 01 00", 5, "a pair that is no entry"),
+    ("02 01 00 02 00 00 00 00 01 02", 11, "order's column m, at the last number"),
+    ("02 01 00 02 00 00 00 00 00 02", 11, "a row twice and a column m"),
+];
+
+// The lengths of the six lists in the order of the call, for the paper's example and what is near
+// it: 3 starts, 3 entries, 2 places.
+#[rustfmt::skip]
+pub const SHORT: &[(&str, [usize; 6], usize, &str)] = &[
+    (EXAMPLE, [3, 3, 3, 3, 2, 2], 0, "no spare place"),
+    (EXAMPLE, [4, 4, 4, 4, 3, 3], 0, "one spare place"),
+    (EXAMPLE, [2, 3, 3, 3, 2, 2], 2, "column starts"),
+    (EXAMPLE, [3, 2, 3, 3, 2, 2], 2, "column entries"),
+    (EXAMPLE, [3, 3, 2, 3, 2, 2], 2, "row starts"),
+    (EXAMPLE, [3, 3, 3, 2, 2, 2], 2, "row entries"),
+    (EXAMPLE, [3, 3, 3, 3, 1, 2], 2, "order rows"),
+    (EXAMPLE, [3, 3, 3, 3, 2, 1], 2, "order columns"),
+    (EXAMPLE, [0, 0, 0, 0, 0, 0], 2, "no places"),
+    (UNSOUND, [9, 9, 9, 9, 9, 9], 5, "unsound"),
+    (UNSOUND, [3, 3, 3, 3, 2, 2], 5, "unsound, no spare place"),
+    (UNSOUND, [3, 3, 3, 3, 2, 1], 2, "unsound, and short"),
+    (UNSOUND, [0, 0, 0, 0, 0, 0], 2, "unsound, and no places"),
+    (SURPLUS, [3, 3, 3, 3, 2, 2], 12, "surplus and unsound"),
+    (SURPLUS, [2, 3, 3, 3, 2, 2], 12, "surplus, unsound and short"),
+    (SURPLUS, [0, 0, 0, 0, 0, 0], 12, "surplus and no places"),
+    // The needs are those of the register that was read: empty columns need no entries.
+    ("02 00 00 00 00 01 01", [3, 0, 3, 0, 2, 2], 5, "no entries, and no places for them"),
+    ("02 00 00 00 00 01 01", [3, 0, 2, 0, 2, 2], 2, "no entries, row starts short"),
+    // Faults of the bytes come before the lists.
+    ("02 01 00 02 00 00 00 00 01", [0, 0, 0, 0, 0, 0], 9, "cut"),
+    ("02 01 00 02 00 00 00 00 81 00", [0, 0, 0, 0, 0, 0], 10, "a wrong form"),
+    ("02 01 00 02 00 00 00 00 02 01", [0, 0, 0, 0, 0, 0], 11, "a wrong range"),
+    ("00", [0, 0, 0, 0, 0, 0], 1, "size 0"),
+];
+
+// The build paper's own.
+pub const EXAMPLE: &str = "02 01 00 02 00 00 00 00 01 01";
+// Row 0 stands twice in the order; and a byte follows.
+const UNSOUND: &str = "02 01 00 02 00 00 00 00 00 01";
+const SURPLUS: &str = "02 01 00 02 00 00 00 00 00 01 00";
+
+// One register with its sheet.
+pub struct Pair {
+    pub sheet: &'static str,
+    pub col_starts: &'static [u16],
+    pub col_rows: &'static [u16],
+    pub row_starts: &'static [u16],
+    pub row_cols: &'static [u16],
+    pub order_rows: &'static [u16],
+    pub order_cols: &'static [u16],
+}
+
+// The paper's example, and a register in whose order and listings rows are not as columns.
+pub const PAIRS: &[Pair] = &[
+    Pair {
+        sheet: EXAMPLE,
+        col_starts: &[0, 1, 3],
+        col_rows: &[0, 0, 1],
+        row_starts: &[0, 2, 3],
+        row_cols: &[0, 1, 1],
+        order_rows: &[0, 1],
+        order_cols: &[0, 1],
+    },
+    Pair {
+        sheet: "03 01 02 02 01 00 02 00 01 02 00 00 02 01 01",
+        col_starts: &[0, 1, 3, 5],
+        col_rows: &[2, 1, 2, 0, 2],
+        row_starts: &[0, 1, 2, 5],
+        row_cols: &[2, 1, 0, 1, 2],
+        order_rows: &[2, 0, 1],
+        order_cols: &[0, 2, 1],
+    },
+];
