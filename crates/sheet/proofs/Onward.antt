@@ -49,6 +49,10 @@ module _ (bytes : List ℕ) (m : ℕ) where
         ∙ gauged-onward (λ (x : ℕ × ℕ). x .1) (member-at bytes m q) (λ c next. got (r, c) next)
         ∙ onward-same (member-at bytes m q)
 
+    pub pair-both : {r q c next : ℕ} → member-at bytes m p ≡ got r q → member-at bytes m q ≡ got c next → pair-at bytes m t p ≡ got (r, c) next
+    unfolding pair-at
+    pair-both {r} {q} e f = onward-on its-column e ∙ onward-on (λ c next. got (r, c) next) f
+
     pub pair-off : {n q : ℕ} → member-at bytes m p ≡ bad n q → pair-at bytes m t p ≡ bad n q
     unfolding pair-at
     pair-off e = onward-off its-column e

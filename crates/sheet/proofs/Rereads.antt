@@ -10,10 +10,11 @@ use Rattle.pattern.specs.Places.{at}
 use Rattle.register.specs.Limits.{max-total}
 use Rattle.sheet.specs.Number.{Read, got}
 use Rattle.sheet.specs.Passes.{thing, Got}
-use Rattle.sheet.specs.Reading.{row-at, rows-at, count-at, column-at, member-at, pair-at}
+use Rattle.sheet.specs.Reading.{row-at, rows-at, count-at, column-at, pair-at}
 use Rattle.sheet.specs.Sheet.{firsts, seconds, past, grown, counted}
+use Rattle.sheet.proofs.Onward.{pair-any}
 use Rattle.sheet.proofs.Lefts.{got-is, thing-is, Left, Next, left-next}
-use Rattle.sheet.proofs.Readings.{thing-same, next-same, row-got, Column-got, column-got, member-got, Pair-got, pair-got}
+use Rattle.sheet.proofs.Readings.{thing-same, next-same, row-got, Column-got, column-got, member-got, pair-got}
 
 -- What is told of a reading is what was read.
 module _ {A : Type 0} {r s : Read A} {x y : A} {n k : ℕ} (e : r ≡ s) (f : s ≡ got x n) (g : r ≡ got y k) where
@@ -65,33 +66,27 @@ pub record Pair-met (bytes : List ℕ) (m place : ℕ) (o : List (ℕ × ℕ)) (
   pub column-below : w < m
   pub left : Order-left bytes m place o (t + 1) q
 
-module _ (bytes : List ℕ) (m : ℕ) {place : ℕ} {o : List (ℕ × ℕ)} {t p : ℕ} (l : Order-left bytes m place o t p) (h : t < m)
-    {r : Read ℕ} (e : r ≡ member-at bytes m p) where
+module _ (bytes : List ℕ) (m : ℕ) {place : ℕ} {o : List (ℕ × ℕ)} {t p : ℕ} (l : Order-left bytes m place o t p) (h : t < m) where
   pair-next : Next (pair-at bytes m) counted m place o (0, 0) t t p
   pair-next = left-next l (0, 0) h
 
-  pair-read : Pair-got bytes m p (getD o t (0, 0)) (pair-next .middle)
-  pair-read = pair-got bytes m t p (pair-next .read)
+  pair-read : pair-at bytes m 0 p ≡ got (getD o t (0, 0)) (pair-next .middle)
+  pair-read = pair-any bytes m 0 p t ∙ pair-next .read
 
-  pub pair-row-known : Got 0 r
-  pair-row-known = got-is 0 (e ∙ pair-read .row-read)
+  pub pair-known : Got {A = ℕ × ℕ} (0, 0) (pair-at bytes m 0 p)
+  pair-known = got-is (0, 0) pair-read
 
-  module _ {v q : ℕ} (k : r ≡ got v q) {r′ : Read ℕ} (e′ : r′ ≡ member-at bytes m q) where
-    column-read : member-at bytes m q ≡ got (getD o t (0, 0) .1) (pair-next .middle)
-    column-read = ap (member-at bytes m) (same-next e (pair-read .row-read) k) ∙ pair-read .column-read
-
-    pub pair-column-known : Got 0 r′
-    pair-column-known = got-is 0 (e′ ∙ column-read)
-
-    pub pair-met : {w q′ : ℕ} → r′ ≡ got w q′ → Pair-met bytes m place o t v w q′
-    pair-met k′ =
-        record {
-          row-is = same-thing e (pair-read .row-read) k ∙ sym (List·getD-map (λ (p : ℕ × ℕ). p .0) o t (0, 0));
-          row-below = member-got bytes m p (sym e ∙ k) .1;
-          column-is = same-thing e′ column-read k′ ∙ sym (List·getD-map (λ (p : ℕ × ℕ). p .1) o t (0, 0));
-          column-below = member-got bytes m q (sym e′ ∙ k′) .1;
-          left = rw (same-next e′ column-read k′) (pair-next .left);
-        }
+  pub pair-met : (v w : ℕ) {q : ℕ} → pair-at bytes m 0 p ≡ got (v, w) q → Pair-met bytes m place o t v w q
+  pair-met v w e =
+      let g = pair-got bytes m 0 p e in
+      let is = same-thing refl pair-read e in
+      record {
+        row-is = ap (λ (x : ℕ × ℕ). x .0) is ∙ sym (List·getD-map (λ (x : ℕ × ℕ). x .0) o t (0, 0));
+        row-below = member-got bytes m p (g .row-read) .1;
+        column-is = ap (λ (x : ℕ × ℕ). x .1) is ∙ sym (List·getD-map (λ (x : ℕ × ℕ). x .1) o t (0, 0));
+        column-below = member-got bytes m (g .middle) (g .column-read) .1;
+        left = rw (same-next refl pair-read e) (pair-next .left);
+      }
 
 -- ---- A column
 

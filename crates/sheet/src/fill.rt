@@ -1,13 +1,13 @@
 // The last passes over a sheet that is accepted: its register goes into the lent lists.
-use crate::items::below;
 use crate::items::count;
 use crate::items::known;
+use crate::items::known_pair;
 use crate::items::row;
 use crate::items::size;
 use register::turn::turn;
 ghost use mathlib.Core.List.{[]};
 ghost use mathlib.Core.Path.{_≡_};
-ghost use Prim.Native.Nat.{ℕ, _+_, _≤_, _<_};
+ghost use Prim.Native.Nat.{_+_, _≤_, _<_};
 ghost use lib.ListN.{length};
 ghost use Rattle.pattern.specs.Flat.{flat};
 ghost use Rattle.register.specs.Held.{over, put, Held, Takes};
@@ -67,11 +67,10 @@ fn fill_order(bytes: &[u8], place: usize, m: u32, rows: &mut [u16], cols: &mut [
     let mut at = place;
     let mut t = 0;
     while t < m {
-        let r = known(below(bytes, at, m));
-        let c = known(below(bytes, r.next, m));
-        rows[t as usize] = r.value as u16;
-        cols[t as usize] = c.value as u16;
-        at = c.next;
+        let pair = known_pair(bytes, at, m);
+        rows[t as usize] = pair.row as u16;
+        cols[t as usize] = pair.column as u16;
+        at = pair.next;
         t += 1;
     }
 }

@@ -9,7 +9,7 @@ ghost use lib.Dec.{ltb};
 ghost use Rattle.register.specs.Limits.{max-size, max-total};
 ghost use Rattle.sheet.specs.Number.{got};
 ghost use Rattle.sheet.specs.Passes.{Got};
-ghost use Rattle.sheet.specs.Reading.{number-that, size-at, row-at, count-at};
+ghost use Rattle.sheet.specs.Reading.{number-that, size-at, row-at, count-at, pair-at};
 ghost use Rattle.sheet.specs.Reply.{told};
 
 // A number that was read, and the place after it.
@@ -87,5 +87,26 @@ pub fn row(bytes: &[u8], place: usize, m: u32, least: u32) -> Number
             next,
         },
         Number::Fault { reply, place } => Number::Fault { reply, place },
+    }
+}
+
+// A row and a column of the order, and the place after them.
+pub struct Pair {
+    pub row: u32,
+    pub column: u32,
+    pub next: usize,
+}
+
+// The row and the column of one place of the order, where they are known to be no fault.
+pub fn known_pair(bytes: &[u8], place: usize, m: u32) -> Pair
+    requires { ⌜ Got {A = ℕ × ℕ} (0, 0) (pair-at (now bytes) m 0 place) ⌝ }
+    ensures { λ r. ⌜ pair-at (now (bytes .entry)) m 0 place ≡ got (r .row, r .column) (r .next) ⌝ }
+{
+    let row = known(below(bytes, place, m));
+    let column = known(below(bytes, row.next, m));
+    Pair {
+        row: row.value,
+        column: column.value,
+        next: column.next,
     }
 }

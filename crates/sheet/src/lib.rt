@@ -16,7 +16,7 @@ use crate::sound::sound;
 use register::Checked;
 use register::Refusal;
 use register::Register;
-ghost use Prim.Native.Nat.{_≤_, _<_};
+ghost use Prim.Native.Nat.{_<_};
 ghost use Rattle.register.specs.Held.{Takes};
 ghost use Rattle.register.specs.Lent.{lists};
 ghost use Rattle.register.specs.Says.{Says};

@@ -1,9 +1,9 @@
 // Whether the order of a sheet without faults is sound, in two scratch lists: the places of its rows, and of each column the
 // greatest place among its rows.
 use crate::items::Step;
-use crate::items::below;
 use crate::items::count;
 use crate::items::known;
+use crate::items::known_pair;
 use crate::items::row;
 use register::Register;
 ghost use mathlib.Core.List.{[]};
@@ -36,13 +36,12 @@ fn enter(bytes: &[u8], place: usize, m: u32, places: &mut [u16; Register::MAX_SI
     let mut at = place;
     let mut t = 0;
     while t < m {
-        let r = known(below(bytes, at, m));
-        let c = known(below(bytes, r.next, m));
-        if places[r.value as usize] != NOWHERE {
+        let pair = known_pair(bytes, at, m);
+        if places[pair.row as usize] != NOWHERE {
             return false;
         }
-        places[r.value as usize] = t as u16;
-        at = c.next;
+        places[pair.row as usize] = t as u16;
+        at = pair.next;
         t += 1;
     }
     true
@@ -108,12 +107,11 @@ fn agree(bytes: &[u8], place: usize, m: u32, tops: &[u16; Register::MAX_SIZE]) -
     let mut at = place;
     let mut t = 0;
     while t < m {
-        let r = known(below(bytes, at, m));
-        let c = known(below(bytes, r.next, m));
-        if tops[c.value as usize] != (t + 1) as u16 {
+        let pair = known_pair(bytes, at, m);
+        if tops[pair.column as usize] != (t + 1) as u16 {
             return false;
         }
-        at = c.next;
+        at = pair.next;
         t += 1;
     }
     true

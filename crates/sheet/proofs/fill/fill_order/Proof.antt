@@ -9,7 +9,7 @@ use Rattle.sheet.specs.Passes.{thing}
 use Rattle.sheet.specs.Reading.{order-at}
 use Rattle.sheet.specs.Sheet.{firsts, seconds}
 use Rattle.sheet.proofs.Lefts.{left-none, left-long}
-use Rattle.sheet.proofs.Rereads.{Order-left, pair-row-known, pair-column-known, Pair-met, pair-met}
+use Rattle.sheet.proofs.Rereads.{Order-left, pair-known, Pair-met, pair-met}
 use Rattle.sheet.proofs.Storing.{Stored, stored-none, stored-more, stored-all}
 use Rattle.sheet.proofs.fill.fill_order.Statement.{statement}
 use Rattle.sheet.proofs.fill.fill_order.Tie as tie
@@ -37,26 +37,19 @@ module _ (l : tie.At-loop Inv-loop μ-loop) where
   cols-long = length-map o (λ (p : ℕ × ℕ). p .1) ∙ left-long (l .loop .inv .0)
 
 -- Once the pair has been read: the turn, and what it met.
-module _ (c : tie.After-known2 Inv-loop μ-loop) where
+module _ (c : tie.After-known-pair Inv-loop μ-loop) where
   abbrev head : tie.At-loop Inv-loop μ-loop
-  head = c .before .before .before .before .before
+  head = c .before .before
 
   met : Pair-met (begun head .args .bytes .now) (begun head .args .m) (begun head .args .place) (o head) (head .loop .t)
-      (c .before .before .known .result .value) (c .known2 .result .value) (c .known2 .result .next)
-  met =
-      let k = c .before .before in
-      pair-met _ _ (head .loop .inv .0) (omega arith) (k .before .below .ensures) (k .known .ensures) (c .before .below2 .ensures) (c .known2 .ensures)
+      (c .known-pair .result .row) (c .known-pair .result .column) (c .known-pair .result .next)
+  met = pair-met _ _ (head .loop .inv .0) (omega arith) _ _ (c .known-pair .ensures)
 
 loop-holds : tie.Need-loop-holds Inv-loop μ-loop
 loop-holds c = (left-none (c .before .before .before .pre .1), stored-none, stored-none)
 
-known-requires : tie.Need-known-requires Inv-loop μ-loop
-known-requires c κs = pair-row-known _ _ (c .before .before .loop .inv .0) (omega arith) (c .below .ensures)
-
-known-requires-2 : tie.Need-known-requires-2 Inv-loop μ-loop
-known-requires-2 c κs =
-    let k = c .before in
-    pair-column-known _ _ (k .before .before .before .loop .inv .0) (omega arith) (k .before .below .ensures) (k .known .ensures) (c .below2 .ensures)
+known-pair-requires : tie.Need-known-pair-requires Inv-loop μ-loop
+known-pair-requires c κs = pair-known _ _ (c .before .loop .inv .0) (omega arith)
 
 cast-rows : tie.Need-cast-rows Inv-loop μ-loop
 cast-rows c = let b = met (c .before) .row-below in search needs
@@ -91,10 +84,7 @@ fill-order-spec =
     Inv-loop
     μ-loop
     loop-holds
-    (λ c κs. search needs)
-    known-requires
-    (λ c κs. search needs)
-    known-requires-2
+    known-pair-requires
     cast-rows
     (λ c. search needs)
     (λ c. search needs)

@@ -11,7 +11,7 @@ use Rattle.sheet.specs.Passes.{thing}
 use Rattle.sheet.specs.Reading.{order-at}
 use Rattle.sheet.specs.Sheet.{firsts}
 use Rattle.sheet.proofs.Lefts.{left-none}
-use Rattle.sheet.proofs.Rereads.{Order-left, pair-row-known, pair-column-known, Pair-met, pair-met}
+use Rattle.sheet.proofs.Rereads.{Order-left, pair-known, Pair-met, pair-met}
 use Rattle.sheet.proofs.sound.enter.Statement.{statement}
 use Rattle.sheet.proofs.sound.enter.Tie as tie
 
@@ -24,9 +24,9 @@ abbrev μ-loop : tie.MeasureT-loop
 μ-loop bytes place m places₀ at₀ t₀ places at t = m - t
 
 -- Once the pair has been read: the turn, and what it met.
-module _ (c : tie.After-known2 Inv-loop μ-loop) where
+module _ (c : tie.After-known-pair Inv-loop μ-loop) where
   abbrev head : tie.At-loop Inv-loop μ-loop
-  head = c .before .before .before .before .before
+  head = c .before .before
 
   abbrev begun : tie.Start Inv-loop μ-loop
   begun = head .before .before
@@ -35,21 +35,14 @@ module _ (c : tie.After-known2 Inv-loop μ-loop) where
   o = thing [] (order-at (begun .args .bytes .now) (begun .args .m) (begun .args .place))
 
   met : Pair-met (begun .args .bytes .now) (begun .args .m) (begun .args .place) o (head .loop .t)
-      (c .before .before .known .result .value) (c .known2 .result .value) (c .known2 .result .next)
-  met =
-      let k = c .before .before in
-      pair-met _ _ (head .loop .inv .0) (omega arith) (k .before .below .ensures) (k .known .ensures) (c .before .below2 .ensures) (c .known2 .ensures)
+      (c .known-pair .result .row) (c .known-pair .result .column) (c .known-pair .result .next)
+  met = pair-met _ _ (head .loop .inv .0) (omega arith) _ _ (c .known-pair .ensures)
 
 loop-holds : tie.Need-loop-holds Inv-loop μ-loop
 loop-holds c = let s = c .before in (left-none (s .pre .0 .1), entered-none _ (s .pre .1 .0) (s .pre .1 .1))
 
-known-requires : tie.Need-known-requires Inv-loop μ-loop
-known-requires c κs = pair-row-known _ _ (c .before .before .loop .inv .0) (omega arith) (c .below .ensures)
-
-known-requires-2 : tie.Need-known-requires-2 Inv-loop μ-loop
-known-requires-2 c κs =
-    let k = c .before in
-    pair-column-known _ _ (k .before .before .before .loop .inv .0) (omega arith) (k .before .below .ensures) (k .known .ensures) (c .below2 .ensures)
+known-pair-requires : tie.Need-known-pair-requires Inv-loop μ-loop
+known-pair-requires c κs = pair-known _ _ (c .before .loop .inv .0) (omega arith)
 
 mul-if1 : tie.Need-mul-if1 Inv-loop μ-loop
 mul-if1 c = let b = met (c .before) .row-below in search needs
@@ -88,10 +81,7 @@ enter-spec =
     Inv-loop
     μ-loop
     loop-holds
-    (λ c κs. search needs)
-    known-requires
-    (λ c κs. search needs)
-    known-requires-2
+    known-pair-requires
     (λ c. search needs)
     mul-if1
     element-copy-out-if1
