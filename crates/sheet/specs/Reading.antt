@@ -30,10 +30,11 @@ module _ (bytes : List ℕ) where
   size-at = number-that (λ m. ltb 0 m && leb m max-size) 1
 
   module _ (m : ℕ) where
-    -- A row is below `m`.
+    -- A row, by its distance from the least that it can be: it is below `m`.
     unfoldable pub row-at : (least p : ℕ) → Read ℕ
     row-at least p = onward (number-that (λ gap. ltb (least + gap) m) 11 p) (λ gap next. got (least + gap) next)
 
+    -- The rows of a column, as many as its count says.
     abbrev pub rows-at : (n p : ℕ) → Read (List ℕ)
     rows-at n = many row-at past n 0
 
@@ -41,9 +42,11 @@ module _ (bytes : List ℕ) where
     abbrev pub count-at : (entries p : ℕ) → Read ℕ
     count-at entries = number-that (λ n. leb n m && leb (entries + n) max-total) 11
 
+    -- A column: its count and then its rows.
     unfoldable pub column-at : (entries p : ℕ) → Read (List ℕ)
     column-at entries p = onward (count-at entries p) rows-at
 
+    -- All columns.
     abbrev pub columns-at : ℕ → Read (List (List ℕ))
     columns-at = many column-at grown m 0
 
@@ -51,9 +54,11 @@ module _ (bytes : List ℕ) where
     abbrev pub member-at : ℕ → Read ℕ
     member-at = number-that (λ v. ltb v m) 11
 
+    -- A place: its row and its column.
     unfoldable pub pair-at : (t p : ℕ) → Read (ℕ × ℕ)
     pair-at t p = onward (member-at p) (λ r q. onward (member-at q) (λ c next. got (r, c) next))
 
+    -- All places.
     abbrev pub order-at : ℕ → Read (List (ℕ × ℕ))
     order-at = many pair-at counted m 0
 

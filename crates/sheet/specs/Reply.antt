@@ -22,6 +22,7 @@ pub data Reply : Type 0 where
   REFUSED : (number : ℕ) → Reply
   ACCEPTED : (figure : ℕ) → Reply
 
+-- What each case of the writer's answer says, of the reader's, and of the answer of the part that decides.
 abbrev pub written : Written → Reply
 written (writer.Refused r) = REFUSED (register.number r)
 written (writer.Count n) = ACCEPTED n

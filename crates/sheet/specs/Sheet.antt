@@ -34,6 +34,7 @@ seconds = map (λ (p : ℕ × ℕ). p .1)
 abbrev pub record-in : (m : ℕ) (col-starts col-rows order-rows order-cols : List ℕ) → Record
 record-in m cs cr or oc = record { size = m; columns = parts m cs cr; order = pairs m or oc }
 
+-- The same of its six lists; the row listing says nothing more.
 abbrev pub record-of : ℕ → Lists → Record
 record-of m l = record-in m (l .col-starts) (l .col-rows) (l .order-rows) (l .order-cols)
 
@@ -46,7 +47,7 @@ module _ (x : Record) where
   abbrev pub Sound-record : Type 0
   Sound-record = Sound (Entry (x .columns)) (x .size) (at (firsts (x .order))) (at (seconds (x .order)))
 
--- Lent lists hold it.
+-- What lent lists are that hold it: both listings, the order, and past these what the lists held.
 abbrev pub held-record : Record → Lists → Lists
 held-record x = holding (x .size) (x .columns) (firsts (x .order)) (seconds (x .order))
 
@@ -75,6 +76,7 @@ counted t pair = t + 1
 abbrev pub row-bytes : ℕ → ℕ → List ℕ
 row-bytes least r = groups (r - least)
 
+-- All rows of a column.
 abbrev pub rows-bytes : List ℕ → List ℕ
 rows-bytes = series row-bytes past 0
 
@@ -82,6 +84,7 @@ rows-bytes = series row-bytes past 0
 abbrev pub column-bytes : ℕ → List ℕ → List ℕ
 column-bytes entries rows = groups (length rows) ++ rows-bytes rows
 
+-- All columns.
 abbrev pub columns-bytes : List (List ℕ) → List ℕ
 columns-bytes = series column-bytes grown 0
 
@@ -89,6 +92,7 @@ columns-bytes = series column-bytes grown 0
 abbrev pub pair-bytes : ℕ → ℕ × ℕ → List ℕ
 pair-bytes t pair = groups (pair .0) ++ groups (pair .1)
 
+-- All places.
 abbrev pub order-bytes : List (ℕ × ℕ) → List ℕ
 order-bytes = series pair-bytes counted 0
 
