@@ -1,35 +1,54 @@
 -- A sound register in lent lists: no check refuses it, it is a sound register of one pattern, and its row listing is that
 -- pattern turned. Rests on Listings.antt, Holding.antt and `pattern`.
+use mathlib.Core.Logic.{_≢_}
 use mathlib.Core.Path.{_≡_, refl, sym, _∙_}
-use Prim.Native.Nat.{ℕ, _<_}
+use Prim.Native.Nat.{ℕ, _≤_, _<_}
 use native.Mathlib.Omega.{arith}
 use lib.ListN.{length, take}
 use lib.Seq.{length-take-le, getD-take}
-use Rattle.pattern.specs.Ladder.{fails, holds}
+use Rattle.pattern.specs.Ladder.{holds}
 use Rattle.pattern.specs.Order.{Sound-register}
 use Rattle.pattern.specs.Pattern.{column, Entry}
 use Rattle.pattern.specs.Places.{at}
 use Rattle.pattern.specs.Turned.{turned}
 use Rattle.pattern.proofs.Once.{onto}
 use Rattle.pattern.proofs.Pairing.{sound-same}
+use Rattle.pattern.proofs.Rungs.{unless-past, unless-held}
 use Rattle.pattern.proofs.Tests.{has-among}
 use Rattle.pattern.proofs.Turning.{Columns, row-below, turned-only}
-use Rattle.register.specs.Checks.{First-fault}
+use Rattle.register.specs.Checks.{Checks, First-fault}
 use Rattle.register.specs.Lent.{Lists, columns, rows, Sound-lists}
 use Rattle.register.specs.Listing.{Good}
 use Rattle.register.proofs.Listings.{good-columns}
 
+-- ---- The checks 1 to 5 of any call
+
+module _ {A : Type 0} {m : ℕ} {l : Lists} (refused : ℕ → A) {rest : A → Type 0} {o : A} where
+  -- No check refuses a sound register.
+  pub checks-taken : Sound-lists m l → rest o → Checks m l refused rest o
+  checks-taken s r = holds (s .sized) (holds (s .long) (holds (s .formed) (holds (s .agree) (holds (s .order) r))))
+
+  pub checks-held : Sound-lists m l → Checks m l refused rest o → rest o
+  checks-held s c = unless-held (s .order) (unless-held (s .agree) (unless-held (s .formed) (unless-held (s .long) (unless-held (s .sized) c))))
+
+  -- What is no refusal is of a sound register.
+  pub checks-past : ((n : ℕ) → 1 ≤ n → o ≢ refused n) → Checks m l refused rest o → Sound-lists m l × rest o
+  checks-past other c =
+      let a = unless-past (other 1 (omega arith)) c in
+      let b = unless-past (other 2 (omega arith)) (a .1) in
+      let f = unless-past (other 3 (omega arith)) (b .1) in
+      let g = unless-past (other 4 (omega arith)) (f .1) in
+      let t = unless-past (other 5 (omega arith)) (g .1) in
+      (record { sized = a .0; long = b .0; formed = f .0; agree = g .0; order = t .0 }, t .1)
+
 -- The check replies 'sound' exactly for a sound register.
 pub no-fault : (m : ℕ) (l : Lists) → Sound-lists m l → First-fault m l 0
-no-fault m l s = holds (s .sized) (holds (s .long) (holds (s .formed) (holds (s .agree) (holds (s .order) refl))))
+no-fault m l s = checks-taken (λ n. n) s refl
 
 pub fault-none : (m : ℕ) (l : Lists) → First-fault m l 0 → Sound-lists m l
-fault-none m l (fails n e) = absurd (omega arith)
-fault-none m l (holds a (fails n e)) = absurd (omega arith)
-fault-none m l (holds a (holds b (fails n e))) = absurd (omega arith)
-fault-none m l (holds a (holds b (holds c (fails n e)))) = absurd (omega arith)
-fault-none m l (holds a (holds b (holds c (holds d (fails n e))))) = absurd (omega arith)
-fault-none m l (holds a (holds b (holds c (holds d (holds o e))))) = record { sized = a; long = b; formed = c; agree = d; order = o }
+fault-none m l f = checks-past (λ n. n) (λ n h e. omega arith) f .0
+
+-- ---- A sound register
 
 module _ {m : ℕ} {l : Lists} (s : Sound-lists m l) where
   pub columns-good : Good m (l .col-starts) (l .col-rows)

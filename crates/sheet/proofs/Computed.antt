@@ -23,27 +23,27 @@ use Rattle.sheet.specs.Writes.{Written-out, written-out, Writes}
 
 module _ (m : ℕ) (l : Lists) (bytes : List ℕ) where
   -- A refusal by its number.
-  abbrev no : ℕ → Written-out
-  no n = written-out (REFUSED n) bytes
+  abbrev refusal : ℕ → Written-out
+  refusal n = written-out (REFUSED n) bytes
 
   -- What comes of each check and those after it.
   abbrev from-8 : Written-out
-  from-8 = checked (leb (length (sheet (record-of m l))) (length bytes)) (no 8) (written-out (ACCEPTED (length (sheet (record-of m l)))) (over (sheet (record-of m l)) bytes))
+  from-8 = checked (leb (length (sheet (record-of m l))) (length bytes)) (refusal 8) (written-out (ACCEPTED (length (sheet (record-of m l)))) (over (sheet (record-of m l)) bytes))
 
   abbrev from-5 : Written-out
-  from-5 = checked (ordered (columns m l) m (at (l .order-rows)) (at (l .order-cols))) (no 5) from-8
+  from-5 = checked (ordered (columns m l) m (at (l .order-rows)) (at (l .order-cols))) (refusal 5) from-8
 
   abbrev from-4 : Written-out
-  from-4 = checked (agree m l) (no 4) from-5
+  from-4 = checked (agree m l) (refusal 4) from-5
 
   abbrev from-3 : Written-out
-  from-3 = checked (formed m l) (no 3) from-4
+  from-3 = checked (formed m l) (refusal 3) from-4
 
   abbrev from-2 : Written-out
-  from-2 = checked (long m l) (no 2) from-3
+  from-2 = checked (long m l) (refusal 2) from-3
 
   unfoldable pub written-of : Written-out
-  written-of = checked (sized m) (no 1) from-2
+  written-of = checked (sized m) (refusal 1) from-2
 
   pub written-right : Writes m l bytes written-of
   unfolding written-of

@@ -1,4 +1,4 @@
--- No two replies, with what they leave, satisfy the statement of a public function for one input. Rests on Ranges.antt, `pattern`
+-- No two replies, with what they leave, satisfy the statement of a public function for one input. Rests on Tests.antt, `pattern`
 -- and `register`.
 use mathlib.Core.List.{List}
 use mathlib.Core.Path.{_≡_, sym, ap, _∙_}
@@ -19,7 +19,7 @@ use Rattle.sheet.specs.declared.Filled.{Filled}
 use Rattle.sheet.specs.declared.Filled.the-variants as reader
 use Rattle.sheet.specs.declared.Examined.{Examined}
 use Rattle.sheet.specs.declared.Examined.the-variants as examined
-use Rattle.sheet.proofs.Ranges.{says-same}
+use Rattle.sheet.proofs.Tests.{says-same}
 
 -- ---- No two answers say the same
 

@@ -1,14 +1,13 @@
 -- Which refusals the bytes of a sheet can meet. Rests on specs/Reading.antt.
-use mathlib.Core.Bool.{Bool, true, false, cond, _&&_}
+use mathlib.Core.Bool.{Bool, true, false, cond}
 use mathlib.Core.List.{List, [], _∷_}
 use Prim.Native.Nat.{ℕ, zero, suc, _+_, _-_, _*_}
-use lib.Dec.{T, eqb, ltb, leb}
+use lib.Dec.{T, eqb, ltb}
 use lib.ListN.{length}
 use Rattle.pattern.specs.Pattern.{has}
 use Rattle.pattern.specs.Places.{at}
-use Rattle.register.specs.Limits.{max-size, max-total}
 use Rattle.sheet.specs.Number.{Read, got, bad, byte, ended, number}
-use Rattle.sheet.specs.Reading.{onward, number-that, many, size-at, row-at, count-at, column-at, columns-at, member-at, pair-at, order-at, record-read}
+use Rattle.sheet.specs.Reading.{onward, number-that, many, size-test, count-test, size-at, row-at, count-at, column-at, columns-at, member-at, pair-at, order-at, record-read}
 use Rattle.sheet.specs.Sheet.{past, grown, counted}
 
 -- The numbers of the sheet's faults.
@@ -67,7 +66,7 @@ module _ (bytes : List ℕ) where
     column-faulty : (entries p : ℕ) → Faulty (column-at bytes m entries p)
     unfolding column-at
     column-faulty entries p =
-        onward-faulty (count-at bytes m entries p) _ (number-that-faulty (λ n. leb n m && leb (entries + n) max-total) 11 p tt)
+        onward-faulty (count-at bytes m entries p) _ (number-that-faulty (count-test m entries) 11 p tt)
         (λ n next. many-faulty (row-at bytes m) past row-faulty n 0 next)
 
     pair-faulty : (t p : ℕ) → Faulty (pair-at bytes m t p)
@@ -79,7 +78,7 @@ module _ (bytes : List ℕ) where
   pub record-faulty : Faulty (record-read bytes)
   unfolding record-read
   record-faulty =
-      onward-faulty (size-at bytes 0) _ (number-that-faulty (λ m. ltb 0 m && leb m max-size) 1 0 tt) (λ m p.
+      onward-faulty (size-at bytes 0) _ (number-that-faulty size-test 1 0 tt) (λ m p.
       onward-faulty (columns-at bytes m p) _ (many-faulty (column-at bytes m) grown (column-faulty m) m 0 p) (λ P q.
       onward-faulty (order-at bytes m q) _ (many-faulty (pair-at bytes m) counted (pair-faulty m) m 0 q) (λ o end.
       cond-faulty (eqb end (length bytes)) (got (record { size = m; columns = P; order = o }) end) (bad 12 end) tt tt)))

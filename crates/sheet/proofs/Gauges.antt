@@ -1,13 +1,13 @@
 -- What is read, by a number that is made of it; and many things so, of which some have been read. Rests on specs/Passes.antt.
 use mathlib.Core.List.{List, [], _∷_}
-use mathlib.Core.Path.{_≡_, refl, ap, _∙_, fun-ext}
+use mathlib.Core.Path.{_≡_, refl, sym, ap, _∙_, fun-ext}
 use Prim.Native.Nat.{ℕ, suc, _+_, _-_, _≤_, _<_}
 use native.Mathlib.Omega.{arith}
 use Rattle.sheet.specs.Number.{Read, got, bad}
 use Rattle.sheet.specs.Passes.{gauged}
 use Rattle.sheet.specs.Reading.{onward, many}
 use Rattle.sheet.proofs.Onward.{gauged-onward}
-use Rattle.sheet.proofs.Readings.{thing-same, next-same}
+use Rattle.sheet.proofs.Readings.{thing-same, next-same, not-got}
 
 -- ---- One reading
 
@@ -21,11 +21,11 @@ module _ {A : Type 0} (f : A → ℕ) where
   pub gauged-got : (r : Read A) {v next : ℕ} → gauged f r ≡ got v next → Gauged f r v next
   unfolding gauged onward
   gauged-got (got x k) e = record { thing = x; read = ap (got x) (next-same e); gauge = thing-same e }
-  gauged-got (bad n p) e = let z : _≡_ {A = ℕ} 0 1 = cc e in absurd (omega arith)
+  gauged-got (bad n p) e = not-got e
 
   pub gauged-bad : (r : Read A) {n p : ℕ} → gauged f r ≡ bad n p → r ≡ bad n p
   unfolding gauged onward
-  gauged-bad (got x k) e = let z : _≡_ {A = ℕ} 0 1 = cc e in absurd (omega arith)
+  gauged-bad (got x k) e = not-got (sym e)
   gauged-bad (bad n p) e = cc e
 
   pub bad-gauged : {r : Read A} {n p : ℕ} → r ≡ bad n p → gauged f r ≡ bad n p

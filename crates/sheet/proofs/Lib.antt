@@ -7,6 +7,7 @@ pub mod Progress
 pub mod Sizes
 pub mod SheetPuts
 pub mod Writing
+pub mod Tests
 pub mod Readings
 pub mod Told
 pub mod Ranges
@@ -28,6 +29,7 @@ pub mod SheetRead
 pub mod SheetWritten
 pub mod Accepted
 pub mod Records
+pub mod Replies
 pub mod OneRecord
 pub mod Computed
 pub mod Example

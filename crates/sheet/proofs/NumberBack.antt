@@ -15,7 +15,7 @@ use borrow.Author.Tests.{ltb-true, ltb-false, eqb-false, lt-ltb, le-ltb, ne-eqb}
 use Rattle.pattern.specs.Places.{at}
 use Rattle.sheet.specs.Number.{max-number, groups, Bytes, Read, got, bad, byte, ended, number}
 use Rattle.sheet.proofs.Numbers.{groups-one, groups-two, groups-three}
-use Rattle.sheet.proofs.Readings.{thing-same, next-same, passed}
+use Rattle.sheet.proofs.Readings.{thing-same, next-same, not-got, passed}
 
 low-group : (g n : ℕ) → g < 128 → (g + 128 * n) % 128 ≡ g
 low-group g n h = omega arith
@@ -90,10 +90,6 @@ module _ (bytes : List ℕ) where
 
   -- ---- And back
 
-  -- What was read, group by group.
-  standing : (p : ℕ) → p < length bytes → Stands p (at bytes p) (drop (p + 1) bytes)
-  standing p h = record { inside = h; is = refl; rest = refl }
-
   from-here : (p : ℕ) → p < length bytes → drop p bytes ≡ at bytes p ∷ drop (p + 1) bytes
   from-here p h = rw add-one (drop-cons bytes p 0 h)
 
@@ -106,7 +102,7 @@ module _ (bytes : List ℕ) where
   ended-got p group value end {v} {next} e = go (eqb group 0) refl e
     where
       go : (b : Bool) → eqb group 0 ≡ b → cond b (bad 10 p) (got value end) ≡ got v next → (0 < group) × (got value end ≡ got v next)
-      go true z e = let w : _≡_ {A = ℕ} 0 1 = cc e in absurd (omega arith)
+      go true z e = not-got e
       go false z e = let w = eqb-false group 0 z in (omega (arith, w), e)
 
   -- A number that was read: the bytes go on with its groups.
@@ -179,7 +175,7 @@ module _ (bytes : List ℕ) where
       from-third : p < length bytes → 128 ≤ a → p + 1 < length bytes → 128 ≤ b → p + 2 < length bytes → (t : Bool) → ltb c 128 ≡ t
           → cond t (ended p c (a - 128 + 128 * (b - 128) + 16384 * c) (p + 3)) (bad 10 p) ≡ got v next → Number-got p v next
       from-third h k i f j true t e = let d = ended-got p c (a - 128 + 128 * (b - 128) + 16384 * c) (p + 3) e in three-read h k i f j (ltb-true c 128 t) (d .0) (d .1)
-      from-third h k i f j false t e = let w : _≡_ {A = ℕ} 0 1 = cc e in absurd (omega arith)
+      from-third h k i f j false t e = not-got e
 
       from-second : p < length bytes → 128 ≤ a → p + 1 < length bytes → (t : Bool) → ltb b 128 ≡ t
           → cond t (ended p b (a - 128 + 128 * b) (p + 2)) (byte bytes p (p + 2) third) ≡ got v next → Number-got p v next

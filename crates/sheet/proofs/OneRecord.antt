@@ -10,57 +10,41 @@ use lib.Seq.{take-append-seam}
 use Rattle.pattern.proofs.Rungs.{unless-past, unless-held}
 use Rattle.register.specs.Held.{over, Takes}
 use Rattle.register.specs.Lent.{Lists, rows, Sound-lists}
-use Rattle.register.proofs.Soundness.{rows-turned}
+use Rattle.register.proofs.Soundness.{checks-held, checks-past, rows-turned}
 use Rattle.sheet.specs.Number.{Bytes, Read, got, bad}
 use Rattle.sheet.specs.Reading.{record-read}
 use Rattle.sheet.specs.Reads.{Read-in, read-in, Reads-as, Reads}
-use Rattle.sheet.specs.Reply.{Reply, REFUSED, ACCEPTED}
+use Rattle.sheet.specs.Reply.{REFUSED, ACCEPTED}
 use Rattle.sheet.specs.Sheet.{Record, record-of, total, held-record, sheet}
 use Rattle.sheet.specs.Writes.{Written-out, written-out, Writes}
 use Rattle.sheet.proofs.Accepted.{record-well}
 use Rattle.sheet.proofs.Layouts.{laid-out}
+use Rattle.sheet.proofs.Replies.{same-figure, not-both}
 use Rattle.sheet.proofs.Records.{lists-well, lists-sound, held-back, held-rows, held-sound}
 use Rattle.sheet.proofs.SheetRead.{sheet-read}
 use Rattle.sheet.proofs.SheetWritten.{Well, sheet-written}
 
--- ---- Replies
+-- ---- Accepted writes
 
-figure-of : Reply → ℕ
-figure-of (REFUSED n) = 0
-figure-of (ACCEPTED n) = n
+module _ (m : ℕ) (l : Lists) where
+  abbrev its-sheet : List ℕ
+  its-sheet = sheet (record-of m l)
 
-same-figure : {n k : ℕ} → ACCEPTED n ≡ ACCEPTED k → n ≡ k
-unfolding figure-of
-same-figure e = ap figure-of e
+  -- What an accepted write gives back.
+  abbrev taken : List ℕ → Written-out
+  taken bytes = written-out (ACCEPTED (length its-sheet)) (over its-sheet bytes)
 
-not-both : {A : Type 0} {n k : ℕ} → REFUSED n ≡ ACCEPTED k → A
-not-both e = let z : _≡_ {A = ℕ} 0 1 = cc e in absurd (omega arith)
+  -- A write is accepted for a sound register and bytes with room for its sheet, and for no others.
+  accepted-write : (bytes : List ℕ) (o : Written-out) (n : ℕ) → Writes m l bytes o → o .reply ≡ ACCEPTED n → Sound-lists m l × (o ≡ taken bytes)
+  accepted-write bytes o n w r =
+      let s = checks-past (λ k. written-out (REFUSED k) bytes) (λ k h. other k) w in
+      (s .0, unless-past (other 8) (s .1) .1)
+    where
+      other : (k : ℕ) → o ≢ written-out (REFUSED k) bytes
+      other k e = not-both (sym (ap (λ (o : Written-out). o .reply) e) ∙ r)
 
--- ---- Accepted calls
-
--- A write is accepted exactly for a sound register and bytes with room for its sheet.
-pub record Accepted-write (m : ℕ) (l : Lists) (bytes : List ℕ) (o : Written-out) : Type 0 where
-  pub sound : Sound-lists m l
-  pub room : length (sheet (record-of m l)) ≤ length bytes
-  pub is : o ≡ written-out (ACCEPTED (length (sheet (record-of m l)))) (over (sheet (record-of m l)) bytes)
-
-pub accepted-write : (m : ℕ) (l : Lists) (bytes : List ℕ) (o : Written-out) (n : ℕ) → Writes m l bytes o → o .reply ≡ ACCEPTED n → Accepted-write m l bytes o
-accepted-write m l bytes o n w r =
-    let a = unless-past (other 1) w in
-    let b = unless-past (other 2) (a .1) in
-    let c = unless-past (other 3) (b .1) in
-    let d = unless-past (other 4) (c .1) in
-    let t = unless-past (other 5) (d .1) in
-    let h = unless-past (other 8) (t .1) in
-    record { sound = record { sized = a .0; long = b .0; formed = c .0; agree = d .0; order = t .0 }; room = h .0; is = h .1 }
-  where
-    other : (k : ℕ) → o ≢ written-out (REFUSED k) bytes
-    other k e = not-both (sym (ap (λ (o : Written-out). o .reply) e) ∙ r)
-
-pub writes-sound : (m : ℕ) (l : Lists) (bytes : List ℕ) (o : Written-out) → Sound-lists m l → length (sheet (record-of m l)) ≤ length bytes → Writes m l bytes o
-    → o ≡ written-out (ACCEPTED (length (sheet (record-of m l)))) (over (sheet (record-of m l)) bytes)
-writes-sound m l bytes o s h w =
-    unless-held h (unless-held (s .order) (unless-held (s .agree) (unless-held (s .formed) (unless-held (s .long) (unless-held (s .sized) w)))))
+  pub sound-writes : (bytes : List ℕ) (o : Written-out) → Sound-lists m l → length its-sheet ≤ length bytes → Writes m l bytes o → o ≡ taken bytes
+  sound-writes bytes o s h w = unless-held h (checks-held (λ k. written-out (REFUSED k) bytes) s w)
 
 -- ---- Written, then read
 
@@ -71,25 +55,24 @@ pub record Same-register (m : ℕ) (l l′ : Lists) : Type 0 where
 
 module _ (m : ℕ) (l : Lists) (bytes : List ℕ) (o : Written-out) (n : ℕ) (w : Writes m l bytes o) (r : o .reply ≡ ACCEPTED n)
     (l′ : Lists) (R : Takes m (total (record-of m l)) l′) (i : Read-in) (g : Reads l′ (take n (o .bytes)) i) where
-  a : Accepted-write m l bytes o
-  a = accepted-write m l bytes o n w r
+  accepted : Sound-lists m l × (o ≡ taken m l bytes)
+  accepted = accepted-write m l bytes o n w r
 
-  S : List ℕ
-  S = sheet (record-of m l)
+  sound : Sound-lists m l
+  sound = accepted .0
 
   well : Well (record-of m l)
-  well = lists-well (a .sound)
+  well = lists-well sound
 
-  sheet-taken : take n (o .bytes) ≡ S
-  unfolding S
+  sheet-taken : take n (o .bytes) ≡ its-sheet m l
   sheet-taken =
-      let k : n ≡ length (sheet (record-of m l)) = same-figure (sym r ∙ ap (λ (o : Written-out). o .reply) (a .is)) in
-      ap₂ (λ (n : ℕ) (b : List ℕ). take n b) k (ap (λ (o : Written-out). o .bytes) (a .is)) ∙ take-append-seam (sheet (record-of m l)) (drop (length (sheet (record-of m l))) bytes)
+      let S = its-sheet m l in
+      let k : n ≡ length S = same-figure (sym r ∙ ap (λ (o : Written-out). o .reply) (accepted .1)) in
+      ap₂ (λ (n : ℕ) (b : List ℕ). take n b) k (ap (λ (o : Written-out). o .bytes) (accepted .1)) ∙ take-append-seam S (drop (length S) bytes)
 
   read-is : i ≡ read-in (ACCEPTED m) (held-record (record-of m l) l′)
-  unfolding S
   read-is =
-      unless-held (lists-sound (a .sound)) (unless-held R
+      unless-held (lists-sound sound) (unless-held R
       (subst (λ (r : Read Record). Reads-as l′ r i) (ap record-read sheet-taken ∙ sheet-written (record-of m l) well) g))
 
   pub write-reads-back : (i .reply ≡ ACCEPTED m) × Same-register m l (i .lists)
@@ -97,7 +80,7 @@ module _ (m : ℕ) (l : Lists) (bytes : List ℕ) (o : Written-out) (n : ℕ) (w
     ap (λ (i : Read-in). i .reply) read-is,
     record {
       record-same = ap (λ (i : Read-in). record-of m (i .lists)) read-is ∙ held-back well R;
-      rows-same = ap (λ (i : Read-in). rows m (i .lists)) read-is ∙ held-rows well R ∙ sym (rows-turned (a .sound));
+      rows-same = ap (λ (i : Read-in). rows m (i .lists)) read-is ∙ held-rows well R ∙ sym (rows-turned sound);
     },
   )
 
@@ -134,4 +117,4 @@ module _ (l : Lists) (bytes : List ℕ) (B : Bytes bytes) (i : Read-in) (m : ℕ
   read-writes-back g bytes′ o h w =
       let R = read-well g in
       subst (λ (S : List ℕ). o ≡ written-out (ACCEPTED (length S)) (over S bytes′)) (R .its-sheet)
-      (writes-sound m (i .lists) bytes′ o (R .sound) (omega (arith, ap length (R .its-sheet))) w)
+      (sound-writes m (i .lists) bytes′ o (R .sound) (omega (arith, ap length (R .its-sheet))) w)

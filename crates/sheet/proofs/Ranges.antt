@@ -1,53 +1,21 @@
--- Numbers that must pass a test: what is read of them, and tests that come to the same. Rests on specs/Reading.antt, Told.antt
--- and `register`.
-use mathlib.Core.Bool.{Bool, true, false, _&&_}
+-- Numbers that must pass a test: what is read of them, and tests that come to the same. Rests on Tests.antt, Told.antt and
+-- `register`.
+use mathlib.Core.Bool.{Bool, true, false}
 use mathlib.Core.List.{List}
-use mathlib.Core.Path.{_≡_, refl, sym, ap, _∙_, fun-ext}
+use mathlib.Core.Path.{_≡_, sym, ap, _∙_, fun-ext}
 use Prim.Native.Nat.{ℕ, _+_, _-_, _≤_, _<_}
 use native.Mathlib.Omega.{arith}
-use lib.Dec.{ltb, leb}
+use lib.Dec.{ltb}
 use Rattle.register.proofs.Answers.{says-less}
-use Rattle.register.proofs.Deciding.{says-most, says-both}
-use Rattle.register.specs.Limits.{max-size, max-total}
-use Rattle.register.specs.Says.{Says}
+use Rattle.register.specs.Limits.{max-total}
 use Rattle.register.specs.declared.Refusal.{Refusal}
 use Rattle.sheet.specs.Number.{got, bad, number}
-use Rattle.sheet.specs.Reading.{onward, number-that, row-at, count-at}
+use Rattle.sheet.specs.Reading.{onward, number-that, count-test, row-at, count-at}
 use Rattle.sheet.specs.Reply.{told}
 use Rattle.sheet.specs.declared.number.Number.{Number}
 use Rattle.sheet.specs.declared.number.Number.the-variants.{Value, Fault}
+use Rattle.sheet.proofs.Tests.{says-same, count-says}
 use Rattle.sheet.proofs.Told.{told-value, told-fault}
-
--- ---- Tests
-
-module _ {P : Type 0} where
-  pub says-true : (b : Bool) → Says b P → P → b ≡ true
-  says-true true s p = refl
-  says-true false s p = absurd (s .no refl p)
-
-  pub says-false : (b : Bool) → Says b P → ¬ P → b ≡ false
-  says-false true s n = absurd (n (s .yes refl))
-  says-false false s n = refl
-
-  -- Two answers to one question.
-  pub says-same : (a b : Bool) → Says a P → Says b P → a ≡ b
-  says-same true b s t = sym (says-true b t (s .yes refl))
-  says-same false b s t = sym (says-false b t (s .no refl))
-
--- The test of a size, and that of a count.
-abbrev pub size-test : ℕ → Bool
-size-test v = ltb 0 v && leb v max-size
-
-pub size-says : (v : ℕ) → Says (size-test v) ((0 < v) × (v ≤ max-size))
-size-says v = says-both (ltb 0 v) (leb v max-size) (says-less 0 v (λ h. h) (λ h. h)) (says-most v max-size)
-
-abbrev count-test : (m entries n : ℕ) → Bool
-count-test m entries n = leb n m && leb (entries + n) max-total
-
-count-says : (m entries n : ℕ) → Says (count-test m entries n) ((n ≤ m) × (entries + n ≤ max-total))
-count-says m entries n = says-both (leb n m) (leb (entries + n) max-total) (says-most n m) (says-most (entries + n) max-total)
-
--- ---- Numbers
 
 module _ (bytes : List ℕ) where
   -- A number that must pass a test, by what was said of the number: it passes, it fails, there is none.

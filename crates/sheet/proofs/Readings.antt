@@ -1,16 +1,17 @@
--- What was read when a reading was not refused, step by step. Rests on specs/Reading.antt.
-use mathlib.Core.Bool.{Bool, true, false, cond, _&&_}
+-- What was read when a reading was not refused, step by step. Rests on specs/Reading.antt and Tests.antt.
+use mathlib.Core.Bool.{Bool, true, false, cond}
 use mathlib.Core.List.{List, _∷_}
 use mathlib.Core.Path.{_≡_, refl, sym, ap, _∙_}
 use Prim.Native.Nat.{ℕ, zero, suc, _+_, _≤_, _<_}
 use native.Mathlib.Omega.{arith}
-use lib.Dec.{ltb, leb}
+use lib.Dec.{ltb}
 use lib.ListN.{length}
-use borrow.Author.Tests.{ltb-true, leb-true}
+use borrow.Author.Tests.{ltb-true}
 use Rattle.register.specs.Limits.{max-size, max-total}
 use Rattle.sheet.specs.Number.{Read, got, bad, number}
 use Rattle.sheet.specs.Passes.{thing}
-use Rattle.sheet.specs.Reading.{onward, number-that, many, size-at, row-at, rows-at, count-at, column-at, member-at, pair-at}
+use Rattle.sheet.specs.Reading.{onward, number-that, many, size-test, count-test, size-at, row-at, rows-at, count-at, column-at, member-at, pair-at}
+use Rattle.sheet.proofs.Tests.{size-says, count-says}
 use Rattle.sheet.specs.Sheet.{past}
 
 -- ---- One thing, and one after another
@@ -27,6 +28,10 @@ pub next-same : {A : Type 0} {x y : A} {n k : ℕ} → got x n ≡ got y k → n
 unfolding after-of
 next-same e = ap after-of e
 
+-- A refusal is not got.
+pub not-got : {A X : Type 0} {x : A} {n k p : ℕ} → bad n p ≡ got x k → X
+not-got e = let z : _≡_ {A = ℕ} 0 1 = cc e in absurd (omega arith)
+
 -- Two readings were got, one from where the other ended.
 pub record Both {A B : Type 0} (r : Read A) (go-on : A → ℕ → Read B) (y : B) (end : ℕ) : Type 0 where
   pub first : A
@@ -37,20 +42,12 @@ pub record Both {A B : Type 0} (r : Read A) (go-on : A → ℕ → Read B) (y : 
 pub onward-got : {A B : Type 0} (r : Read A) (go-on : A → ℕ → Read B) {y : B} {end : ℕ} → onward r go-on ≡ got y end → Both r go-on y end
 unfolding onward
 onward-got (got x next) go-on e = record { first = x; middle = next; first-got = refl; second-got = e }
-onward-got (bad n p) go-on e = let z : _≡_ {A = ℕ} 0 1 = cc e in absurd (omega arith)
+onward-got (bad n p) go-on e = not-got e
 
 -- A test was passed.
 pub passed : {A : Type 0} (test : Bool) (r : Read A) (reply p : ℕ) {y : A} {k : ℕ} → cond test r (bad reply p) ≡ got y k → (test ≡ true) × (r ≡ got y k)
 passed true r reply p e = (refl, e)
-passed false r reply p e = let z : _≡_ {A = ℕ} 0 1 = cc e in absurd (omega arith)
-
-pub and-first : (a b : Bool) → a && b ≡ true → a ≡ true
-and-first true b e = refl
-and-first false b e = e
-
-pub and-second : (a b : Bool) → a && b ≡ true → b ≡ true
-and-second true b e = e
-and-second false b e = let z : _≡_ {A = ℕ} 0 1 = cc e in absurd (omega arith)
+passed false r reply p e = not-got e
 
 -- ---- Many
 
@@ -100,8 +97,9 @@ module _ (bytes : List ℕ) where
 
   pub size-got : (p : ℕ) {m next : ℕ} → size-at bytes p ≡ got m next → (number bytes p ≡ got m next) × (1 ≤ m) × (m ≤ max-size)
   size-got p {m} e =
-      let a = number-that-got (λ m. ltb 0 m && leb m max-size) 1 p e in
-      (a .0, ltb-true 0 m (and-first (ltb 0 m) (leb m max-size) (a .1)), leb-true m max-size (and-second (ltb 0 m) (leb m max-size) (a .1)))
+      let a = number-that-got size-test 1 p e in
+      let t = size-says m .yes (a .1) in
+      (a .0, t .0, t .1)
 
   module _ (m : ℕ) where
     -- A row: the gap that was read.
@@ -126,8 +124,9 @@ module _ (bytes : List ℕ) where
 
     pub count-got : (entries p : ℕ) {n next : ℕ} → count-at bytes m entries p ≡ got n next → (number bytes p ≡ got n next) × (n ≤ m) × (entries + n ≤ max-total)
     count-got entries p {n} e =
-        let a = number-that-got (λ n. leb n m && leb (entries + n) max-total) 11 p e in
-        (a .0, leb-true n m (and-first (leb n m) (leb (entries + n) max-total) (a .1)), leb-true (entries + n) max-total (and-second (leb n m) (leb (entries + n) max-total) (a .1)))
+        let a = number-that-got (count-test m entries) 11 p e in
+        let t = count-says m entries n .yes (a .1) in
+        (a .0, t .0, t .1)
 
     -- A column: its count, and the rows from there.
     pub record Column-got (entries p : ℕ) (l : List ℕ) (next : ℕ) : Type 0 where

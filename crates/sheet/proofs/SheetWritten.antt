@@ -1,11 +1,11 @@
 -- The sheet of a record whose numbers are in range is read as that record. Rests on NumberBack.antt, SeriesBack.antt and
 -- Layouts.antt.
-use mathlib.Core.Bool.{Bool, true, _&&_}
+use mathlib.Core.Bool.{Bool, true}
 use mathlib.Core.List.{List, [], _∷_, _++_, append-assoc, append-nil}
 use mathlib.Core.Path.{_≡_, refl, sym, ap, _∙_}
 use Prim.Native.Nat.{ℕ, suc, _+_, _-_, _≤_, _<_}
 use native.Mathlib.Omega.{arith}
-use lib.Dec.{ltb, leb}
+use lib.Dec.{ltb}
 use lib.ListN.{length, drop, getD, length-append}
 use borrow.Author.Tests.{lt-ltb, le-leb}
 use Rattle.pattern.specs.Flat.{flat}
@@ -17,10 +17,11 @@ use Rattle.register.specs.Lent.{Sized}
 use Rattle.register.specs.Limits.{max-size, max-total}
 use Rattle.register.proofs.Rises.{rising-few}
 use Rattle.sheet.specs.Number.{max-number, groups, got}
-use Rattle.sheet.specs.Reading.{onward, number-that, many, size-at, row-at, rows-at, column-at, pair-at, record-read}
+use Rattle.sheet.specs.Reading.{onward, number-that, many, size-test, count-test, size-at, row-at, rows-at, column-at, pair-at, record-read}
 use Rattle.sheet.specs.Sheet.{Record, firsts, seconds, total, past, grown, counted, row-bytes, rows-bytes, column-bytes, columns-bytes, pair-bytes, order-bytes, sheet}
 use Rattle.sheet.proofs.Layouts.{laid-out-read}
 use Rattle.sheet.proofs.NumberBack.{number-written}
+use Rattle.sheet.proofs.Readings.{thing-same}
 use Rattle.sheet.proofs.SeriesBack.{behind, Fit-all, series-written}
 
 -- The numbers of a record are in range.
@@ -40,7 +41,7 @@ module _ (bytes : List ℕ) where
   number-back test reply p v l few t e = rw (number-written bytes p v l few e) (rw t)
 
   size-back : (m : ℕ) (l : List ℕ) → Sized m → drop 0 bytes ≡ groups m ++ l → size-at bytes 0 ≡ got m (0 + length (groups m))
-  size-back m l s e = number-back (λ m. ltb 0 m && leb m max-size) 1 0 m l (omega (arith, s .1)) (rw (lt-ltb 0 m (s .0), le-leb m max-size (s .1))) e
+  size-back m l s e = number-back size-test 1 0 m l (omega (arith, s .1)) (rw (lt-ltb 0 m (s .0), le-leb m max-size (s .1))) e
 
   module _ {m : ℕ} (small : m ≤ max-size) where
     -- ---- A column
@@ -71,7 +72,7 @@ module _ (bytes : List ℕ) where
         let here = e ∙ append-assoc (groups n) (rows-bytes rows) l in
         let q = p + length (groups n) in
         let end : q + length (rows-bytes rows) ≡ p + length (column-bytes entries rows) = omega (arith, length-append (groups n) (rows-bytes rows)) in
-        rw (number-back (λ n. leb n m && leb (entries + n) max-total) 11 p n (rows-bytes rows ++ l) (omega (arith, few)) (rw (le-leb n m few, le-leb (entries + n) max-total (f .1))) here)
+        rw (number-back (count-test m entries) 11 p n (rows-bytes rows ++ l) (omega (arith, few)) (rw (le-leb n m few, le-leb (entries + n) max-total (f .1))) here)
         (rows-back q rows l (f .0) (behind bytes p (groups n) (rows-bytes rows ++ l) here) ∙ ap (got rows) end)
 
     columns-fit : (entries : ℕ) (P : List (List ℕ)) → ((c : ℕ) → c < length P → Rising m (getD P c [])) → entries + length (flat P) ≤ max-total
@@ -145,3 +146,7 @@ module _ (x : Record) (w : Well x) where
         columns-read = ap (λ (n : ℕ). many (column-at (sheet x) m) grown n 0 p) (sym (w .columns .size)) ∙ columns-read;
         order-read = ap (λ (n : ℕ). many (pair-at (sheet x) m) counted n 0 q) (sym (w .places)) ∙ order-read ∙ ap (got (x .order)) ends;
       })
+
+-- No two records have one sheet.
+pub sheet-apart : (x y : Record) → Well x → Well y → sheet x ≡ sheet y → x ≡ y
+sheet-apart x y w v e = thing-same (sym (sheet-written x w) ∙ ap record-read e ∙ sheet-written y v)

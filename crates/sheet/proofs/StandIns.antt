@@ -12,6 +12,7 @@ use Rattle.sheet.specs.Reads.{Examines, Read-in, read-in, Reads}
 use Rattle.sheet.specs.Reply.{REFUSED, ACCEPTED, refused, found}
 use Rattle.sheet.specs.Writes.{Written-out, written-out, Writes}
 use Rattle.sheet.proofs.Determined.{written-one, read-one}
+use Rattle.sheet.proofs.Replies.{not-both}
 use Rattle.sheet.proofs.Example.{example-sheet, example-lists, example-room, example-writes, wide-lists, example-reads}
 
 -- ---- The writer
@@ -22,7 +23,7 @@ module _ {o : Written-out} (w : Writes 2 example-lists example-room o) where
 
 -- One that refuses everything.
 pub refusing-writer-fails : (n : ℕ) (bytes : List ℕ) → ¬ Writes 2 example-lists example-room (written-out (REFUSED n) bytes)
-refusing-writer-fails n bytes w = let z : _≡_ {A = ℕ} 0 1 = cc (ap (λ (o : Written-out). o .reply) (right w)) in omega arith
+refusing-writer-fails n bytes w = not-both (ap (λ (o : Written-out). o .reply) (right w))
 
 -- One that says that it has written, and has not.
 pub idle-writer-fails : (n : ℕ) → ¬ Writes 2 example-lists example-room (written-out (ACCEPTED n) example-room)
@@ -36,7 +37,7 @@ spilling-writer-fails n w = omega (arith, ap (λ (o : Written-out). at (o .bytes
 
 -- One that refuses everything.
 pub refusing-reader-fails : (n : ℕ) (l : Lists) → ¬ Reads wide-lists example-sheet (read-in (REFUSED n) l)
-refusing-reader-fails n l g = let z : _≡_ {A = ℕ} 0 1 = cc (ap (λ (o : Read-in). o .reply) (read-one wide-lists example-sheet _ _ g example-reads)) in omega arith
+refusing-reader-fails n l g = not-both (ap (λ (o : Read-in). o .reply) (read-one wide-lists example-sheet _ _ g example-reads))
 
 -- One that says that it has read, and has stored nothing.
 pub idle-reader-fails : (n : ℕ) → ¬ Reads wide-lists example-sheet (read-in (ACCEPTED n) wide-lists)

@@ -8,12 +8,13 @@ use native.Mathlib.Omega.{arith}
 use lib.ListN.{length}
 use Rattle.pattern.specs.Ladder.{fails, holds}
 use Rattle.pattern.proofs.Rungs.{unless-map}
-use Rattle.register.specs.Checks.{First-fault, Checks}
+use Rattle.register.specs.Checks.{First-fault}
 use Rattle.register.specs.Held.{over}
 use Rattle.register.specs.Lent.{Lists, Sound-lists}
+use Rattle.register.proofs.Soundness.{checks-taken}
 use Rattle.sheet.specs.Reply.{REFUSED, ACCEPTED}
 use Rattle.sheet.specs.Sheet.{record-of, sheet}
-use Rattle.sheet.specs.Writes.{Written-out, written-out, Writes}
+use Rattle.sheet.specs.Writes.{written-out, Writes}
 
 module _ (m : ℕ) (l : Lists) (bytes : List ℕ) where
   -- A register that has a fault is refused by its number.
@@ -23,14 +24,11 @@ module _ (m : ℕ) (l : Lists) (bytes : List ℕ) where
       refuse : {n k : ℕ} → n ≡ k → written-out (REFUSED n) bytes ≡ written-out (REFUSED k) bytes
       refuse e = ap (λ (n : ℕ). written-out (REFUSED n) bytes) e
 
+  -- Of one that has none the byte list decides.
   module _ (s : Sound-lists m l) where
-    -- Of one that has none the byte list decides.
-    checked : {rest : Written-out → Type 0} {o : Written-out} → rest o → Checks m l (λ n. written-out (REFUSED n) bytes) rest o
-    checked r = holds (s .sized) (holds (s .long) (holds (s .formed) (holds (s .agree) (holds (s .order) r))))
-
     pub write-short : length bytes < length (sheet (record-of m l)) → Writes m l bytes (written-out (REFUSED 8) bytes)
-    write-short h = checked (fails (λ p. omega arith) refl)
+    write-short h = checks-taken (λ n. written-out (REFUSED n) bytes) s (fails (λ p. omega arith) refl)
 
     pub write-taken : {n : ℕ} {new : List ℕ} → length (sheet (record-of m l)) ≤ length bytes → n ≡ length (sheet (record-of m l))
         → new ≡ over (sheet (record-of m l)) bytes → Writes m l bytes (written-out (ACCEPTED n) new)
-    write-taken h e f = checked (holds h (ap₂ (λ (n : ℕ) (new : List ℕ). written-out (ACCEPTED n) new) e f))
+    write-taken h e f = checks-taken (λ n. written-out (REFUSED n) bytes) s (holds h (ap₂ (λ (n : ℕ) (new : List ℕ). written-out (ACCEPTED n) new) e f))

@@ -20,14 +20,21 @@ many one after (suc n) s p =
     onward (one s p) (λ x next.
     onward (many one after n (after s x) next) (λ l end. got (x ∷ l) end))
 
+-- A size is 1 to 1,000.
+abbrev pub size-test : ℕ → Bool
+size-test m = ltb 0 m && leb m max-size
+
+-- A count is at most `m`, and with it the entries so far are at most 12,000.
+abbrev pub count-test : (m entries n : ℕ) → Bool
+count-test m entries n = leb n m && leb (entries + n) max-total
+
 module _ (bytes : List ℕ) where
   -- A number that must pass a test, and the refusal where it fails.
   unfoldable pub number-that : (ℕ → Bool) → (reply p : ℕ) → Read ℕ
   number-that test reply p = onward (number bytes p) (λ v next. cond (test v) (got v next) (bad reply p))
 
-  -- The size is 1 to 1,000.
   abbrev pub size-at : ℕ → Read ℕ
-  size-at = number-that (λ m. ltb 0 m && leb m max-size) 1
+  size-at = number-that size-test 1
 
   module _ (m : ℕ) where
     -- A row, by its distance from the least that it can be: it is below `m`.
@@ -38,9 +45,8 @@ module _ (bytes : List ℕ) where
     abbrev pub rows-at : (n p : ℕ) → Read (List ℕ)
     rows-at n = many row-at past n 0
 
-    -- A count is at most `m`, and the entries up to here are at most 12,000.
     abbrev pub count-at : (entries p : ℕ) → Read ℕ
-    count-at entries = number-that (λ n. leb n m && leb (entries + n) max-total) 11
+    count-at entries = number-that (count-test m entries) 11
 
     -- A column: its count and then its rows.
     unfoldable pub column-at : (entries p : ℕ) → Read (List ℕ)

@@ -85,7 +85,7 @@ fn scan_columns(bytes: &[u8], place: usize, m: u32) -> Number
     }
 }
 
-// The row and the column of one place of the order.
+// The row and the column of one place of the order: the column, and the place after it.
 fn scan_pair(bytes: &[u8], place: usize, m: u32) -> Number
     ensures { λ r. ⌜ told r ≡ gauged (λ (p : ℕ × ℕ). p .1) (pair-at (now (bytes .entry)) m 0 place) ⌝ }
 {
