@@ -1,6 +1,6 @@
 -- The two answers of a test. Rests on specs/Says.antt.
 use mathlib.Core.Bool.{Bool, true, false, not}
-use mathlib.Core.Path.{_≡_, refl}
+use mathlib.Core.Path.{_≡_, refl, sym}
 use Prim.Native.Nat.{ℕ, _<_}
 use native.Mathlib.Omega.{arith}
 use lib.Dec.{ltb}
@@ -36,3 +36,19 @@ says-as f g s = record { yes = λ e. f (s .yes e); no = λ e q. s .no e (g q) }
 -- An answer that compares two numbers.
 pub says-less : {P : Type 0} (a b : ℕ) → (a < b → P) → (P → a < b) → Says (ltb a b) P
 says-less a b f g = record { yes = λ e. f (ltb-true a b e); no = λ e p. omega (arith, ltb-false a b e, g p) }
+
+-- ---- Two answers
+
+module _ {P : Type 0} where
+  pub says-true : (b : Bool) → Says b P → P → b ≡ true
+  says-true true s p = refl
+  says-true false s p = absurd (s .no refl p)
+
+  pub says-false : (b : Bool) → Says b P → ¬ P → b ≡ false
+  says-false true s n = absurd (n (s .yes refl))
+  says-false false s n = refl
+
+  -- Two answers to one question.
+  pub says-same : (a b : Bool) → Says a P → Says b P → a ≡ b
+  says-same true b s t = sym (says-true b t (s .yes refl))
+  says-same false b s t = sym (says-false b t (s .no refl))

@@ -1,4 +1,5 @@
 -- No two replies satisfy the statement of a public function for one input. Rests on Calls.antt and `pattern`.
+use mathlib.Core.Bool.{Bool}
 use mathlib.Core.List.{List, [], _∷_}
 use mathlib.Core.Path.{_≡_, refl, sym, ap, _∙_}
 use Prim.Native.Nat.{ℕ, zero, suc}
@@ -8,13 +9,15 @@ use lib.Seq.{ext-getD}
 use Rattle.pattern.proofs.Rungs.{unless-one}
 use Rattle.pattern.proofs.Verdicts.{judged-unique}
 use Rattle.register.specs.Checks.{First-fault, Call}
-use Rattle.register.specs.Held.{Held}
+use Rattle.register.specs.Held.{Held, Takes}
 use Rattle.register.specs.Lent.{Lists, Fresh}
 use Rattle.register.specs.Listing.{between}
 use Rattle.register.specs.Look.{Spans, Looked}
 use Rattle.register.specs.Marks.{unmarked}
 use Rattle.register.specs.Replace.{Outcome, outcome, asked, after, Replaces}
 use Rattle.register.specs.Reply.{Answer, REFUSED, SINGULAR, PERMUTED, ELIMINATION, Reply, number, fault, reply}
+use Rattle.register.specs.Says.{Says}
+use Rattle.register.specs.Start.{Started, started, Starts-with}
 use Rattle.register.specs.declared.Checked.{Checked}
 use Rattle.register.specs.declared.Checked.the-variants.{Sound, Refused}
 use Rattle.register.specs.declared.Refusal.{Refusal}
@@ -23,6 +26,7 @@ use Rattle.register.specs.declared.Judgment.the-variants.{Singular, Perm
 use Rattle.register.specs.declared.Replaced.{Replaced}
 use Rattle.register.specs.declared.Replaced.the-variants as replaced
 use Rattle.register.specs.declared.marks.Marks.{Marks}
+use Rattle.register.proofs.Answers.{says-same}
 use Rattle.register.proofs.Calls.{call-judged}
 
 -- A statement that gives its reply by an equation has one.
@@ -89,6 +93,19 @@ fault-one m l = unless-one (λ _. unless-one (λ _. unless-one (λ _. unless-one
 
 pub check-determined : (m : ℕ) (l : Lists) (r r′ : Checked) → First-fault m l (fault r) → First-fault m l (fault r′) → r ≡ r′
 check-determined m l r r′ f f′ = sym (reply-back r) ∙ ap reply-of (fault-one m l (fault r) (fault r′) f f′) ∙ reply-back r′
+
+pub takes-determined : (m total : ℕ) (l : Lists) (a b : Bool) → Says a (Takes m total l) → Says b (Takes m total l) → a ≡ b
+takes-determined m total l = says-same
+
+-- A start has one outcome.
+pub started-one : (m : ℕ) (l : Lists) (o o′ : Started) → Starts-with m l o → Starts-with m l o′ → o ≡ o′
+started-one m l = unless-one (λ _. unless-one (λ _. unless-one (λ _. unless-one (λ _ o o′. same))))
+
+pub start-determined : (m : ℕ) (l : Lists) (r r′ : Checked) (k k′ : Lists) → Starts-with m l (started (fault r) k) → Starts-with m l (started (fault r′) k′)
+    → (r ≡ r′) × (k ≡ k′)
+start-determined m l r r′ k k′ f f′ =
+    let o = started-one m l (started (fault r) k) (started (fault r′) k′) f f′ in
+    (sym (reply-back r) ∙ ap (λ (o : Started). reply-of (o .fault)) o ∙ reply-back r′, ap (λ (o : Started). o .lists) o)
 
 -- A look's part has one beginning and one end.
 pub span-determined : (m c : ℕ) (starts rows : List ℕ) (s s′ : ℕ × ℕ) → Spans m c starts rows s → Spans m c starts rows s′ → s ≡ s′

@@ -12,6 +12,7 @@ pub mod Holding
 pub mod Readback
 pub mod Holdings
 pub mod Puts
+pub mod Storing
 pub mod Turns
 pub mod Without
 pub mod Moves
@@ -26,6 +27,7 @@ pub mod Arranging
 pub mod PeelCounts
 pub mod Peels
 pub mod Soundness
+pub mod Starting
 pub mod Calls
 pub mod Spikes
 pub mod Judging

@@ -17,7 +17,8 @@ use Rattle.register.specs.Held.{Held}
 use Rattle.register.specs.Lent.{Lists, lists, Fresh, Sound-lists}
 use Rattle.register.specs.Listing.{part, Listing}
 use Rattle.register.specs.Look.{Looked}
-use Rattle.register.proofs.Determined.{fault-one, look-determined}
+use Rattle.register.specs.Start.{Started, started, Start-sound, start-lists, Starts-with}
+use Rattle.register.proofs.Determined.{fault-one, started-one, look-determined}
 use Rattle.register.proofs.Soundness.{no-fault}
 
 -- The register of size 1: its one column has its one row.
@@ -75,6 +76,36 @@ passing-all-fails f = go (f 0 one)
 -- It cannot refuse everything.
 pub refusing-all-fails : ¬ ((m : ℕ) (l : Lists) → (n : ℕ) × (0 < n) × First-fault m l n)
 refusing-all-fails f = let g = f 1 one in omega (arith, g .1, fault-one 1 one (g .0) 0 (g .2) (no-fault 1 one one-sound))
+
+-- ---- The start
+
+-- It cannot take every column listing: size 0 is refused.
+pub starting-all-fails : ¬ ((m : ℕ) (l : Lists) → Starts-with m l (started 0 (start-lists m l)))
+starting-all-fails f = go (f 0 one)
+  where
+    go : Starts-with 0 one (started 0 (start-lists 0 one)) → ⊥
+    go (fails n e) = omega (arith, ap (λ (o : Started). o .fault) e)
+    go (holds p q) = omega (arith, p)
+
+-- The same register with its row listing and its order yet to be written.
+abbrev unstarted : Lists
+unstarted = lists (0 ∷ 1 ∷ []) (0 ∷ []) (9 ∷ 9 ∷ []) (9 ∷ []) (9 ∷ []) (9 ∷ [])
+
+own-paired : (t : ℕ) → t < 1 → Entry ((0 ∷ []) ∷ []) t t
+own-paired zero h = tt
+own-paired (suc t) h = absurd (omega arith)
+
+own-once : Once (λ t. t) 1 1
+own-once = record { below = λ i h. h; once = λ i j hi hj e. e }
+
+-- It cannot leave these as they are.
+pub idle-start-fails : ¬ Starts-with 1 unstarted (started 0 unstarted)
+unfolding tally numbers
+idle-start-fails f =
+    let sound : Start-sound 1 unstarted = record { rows = own-once; cols = own-once; paired = own-paired; upper = λ s t hs ht e. omega arith } in
+    let right : Starts-with 1 unstarted (started 0 (start-lists 1 unstarted)) = holds (omega arith) (holds (omega arith) (holds one-formed (holds sound refl))) in
+    let e = started-one 1 unstarted (started 0 unstarted) (started 0 (start-lists 1 unstarted)) f right in
+    omega (arith, ap (λ (o : Started). at (o .lists .row-starts) 0) e)
 
 -- ---- The look
 

@@ -14,5 +14,6 @@ pub mod Order
 pub mod Peel
 pub mod Reach
 pub mod Store
+pub mod Start
 pub mod Replace
 pub mod Judge

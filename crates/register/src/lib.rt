@@ -9,7 +9,9 @@ mod order;
 mod peel;
 mod reach;
 mod replace;
+pub mod room;
 mod same;
+mod start;
 mod store;
 pub mod turn;
 mod wide;
@@ -23,6 +25,7 @@ ghost use Rattle.register.specs.Look.{Spans, Looked};
 ghost use Rattle.register.specs.Marks.{unmarked};
 ghost use Rattle.register.specs.Replace.{outcome, Replaces};
 ghost use Rattle.register.specs.Reply.{number, fault, reply};
+ghost use Rattle.register.specs.Start.{started, Starts-with};
 
 // What a call refuses, in the order of the build paper's numbers. The last four are the sheet reader's alone.
 pub enum Refusal {
@@ -127,6 +130,35 @@ impl Register {
             (fault reply) ⌝ }
     {
         check::check(
+            self.size,
+            col_starts,
+            col_rows,
+            row_starts,
+            row_cols,
+            order_rows,
+            order_cols,
+        )
+    }
+
+    // Starts a register from its column listing, in the order that pairs row t with column t: after checks 1, 2, 3 and 5 of that
+    // listing the row listing and the order are written.
+    pub fn start(
+        self,
+        col_starts: &[u16],
+        col_rows: &[u16],
+        row_starts: &mut [u16],
+        row_cols: &mut [u16],
+        order_rows: &mut [u16],
+        order_cols: &mut [u16],
+    ) -> Checked
+        ensures { λ reply. ⌜ Starts-with (self .size)
+            (lists (now («col_starts» .entry)) (now («col_rows» .entry)) (now («row_starts» .entry)) (now («row_cols» .entry))
+            (now («order_rows» .entry)) (now («order_cols» .entry)))
+            (started (fault reply)
+            (lists (now («col_starts» .exit)) (now («col_rows» .exit)) (now («row_starts» .exit)) (now («row_cols» .exit))
+            (now («order_rows» .exit)) (now («order_cols» .exit)))) ⌝ }
+    {
+        start::start(
             self.size,
             col_starts,
             col_rows,

@@ -1,11 +1,12 @@
--- No two replies, with what they leave, satisfy the statement of a public function for one input. Rests on Tests.antt, `pattern`
--- and `register`.
+-- No two replies, with what they leave, satisfy the statement of a public function for one input. Rests on `pattern` and
+-- `register`.
 use mathlib.Core.List.{List}
 use mathlib.Core.Path.{_≡_, sym, ap, _∙_}
 use Prim.Native.Nat.{ℕ}
 use native.Mathlib.Omega.{arith}
 use Rattle.pattern.proofs.Rungs.{unless-one}
 use Rattle.register.specs.Lent.{Lists}
+use Rattle.register.proofs.Answers.{says-same}
 use Rattle.register.proofs.Determined.{refusal-one}
 use Rattle.sheet.specs.Number.{Read, got, bad}
 use Rattle.sheet.specs.Reading.{record-read}
@@ -19,7 +20,6 @@ use Rattle.sheet.specs.declared.Filled.{Filled}
 use Rattle.sheet.specs.declared.Filled.the-variants as reader
 use Rattle.sheet.specs.declared.Examined.{Examined}
 use Rattle.sheet.specs.declared.Examined.the-variants as examined
-use Rattle.sheet.proofs.Tests.{says-same}
 
 -- ---- No two answers say the same
 

@@ -20,7 +20,6 @@ pub mod Replying
 pub mod Rereads
 pub mod Formed
 pub mod Tops
-pub mod Storing
 pub mod Listings
 pub mod Faults
 pub mod NumberBack

@@ -1,4 +1,4 @@
--- A column listing that is stored column by column. Rests on Storing.antt, `register` and `pattern`.
+-- A column listing that is stored column by column. Rests on `register` and `pattern`.
 use mathlib.Core.List.{List, []}
 use mathlib.Core.Path.{_≡_, refl, sym, ap, _∙_, subst₂}
 use Prim.Native.Nat.{ℕ, _+_, _≤_, _<_}
@@ -18,7 +18,7 @@ use Rattle.register.specs.Limits.{max-size, max-total}
 use Rattle.register.specs.Listing.{parts, Good}
 use Rattle.register.proofs.Puts.{put-over, put-length}
 use Rattle.register.proofs.Readback.{held-start, held-parts, held-good}
-use Rattle.sheet.proofs.Storing.{Stored, stored-none, stored-more, stored-all}
+use Rattle.register.proofs.Storing.{Stored, stored-none, stored-more, stored-all}
 
 -- Two lists have room for the listing of the `m` columns `P`.
 pub record Room-for (m : ℕ) (P : List (List ℕ)) (starts entries : List ℕ) : Type 0 where

@@ -6,7 +6,7 @@ use mathlib.Core.Path.{_≡_, sym, ap, _∙_, fun-ext}
 use Prim.Native.Nat.{ℕ, _+_, _-_, _≤_, _<_}
 use native.Mathlib.Omega.{arith}
 use lib.Dec.{ltb}
-use Rattle.register.proofs.Answers.{says-less}
+use Rattle.register.proofs.Answers.{says-less, says-same}
 use Rattle.register.specs.Limits.{max-total}
 use Rattle.register.specs.declared.Refusal.{Refusal}
 use Rattle.sheet.specs.Number.{got, bad, number}
@@ -14,7 +14,7 @@ use Rattle.sheet.specs.Reading.{onward, number-that, count-test, row-at,
 use Rattle.sheet.specs.Reply.{told}
 use Rattle.sheet.specs.declared.number.Number.{Number}
 use Rattle.sheet.specs.declared.number.Number.the-variants.{Value, Fault}
-use Rattle.sheet.proofs.Tests.{says-same, count-says}
+use Rattle.sheet.proofs.Tests.{count-says}
 use Rattle.sheet.proofs.Told.{told-value, told-fault}
 
 module _ (bytes : List ℕ) where

@@ -16,10 +16,9 @@ use crate::sound::sound;
 use register::Checked;
 use register::Refusal;
 use register::Register;
+use register::room::takes;
 ghost use Prim.Native.Nat.{_<_};
-ghost use Rattle.register.specs.Held.{Takes};
 ghost use Rattle.register.specs.Lent.{lists};
-ghost use Rattle.register.specs.Says.{Says};
 ghost use Rattle.sheet.specs.Reads.{Examines, read-in, Reads};
 ghost use Rattle.sheet.specs.Reply.{written, filled, finding};
 ghost use Rattle.sheet.specs.Writes.{written-out, Writes};
@@ -104,41 +103,6 @@ pub fn examine(bytes: &[u8]) -> Examined
             sound: sound(bytes, size, columns, order),
         },
     }
-}
-
-// Whether the lists have room for a register of this size with so many entries.
-fn takes(
-    size: usize,
-    total: usize,
-    cs: &[u16],
-    cr: &[u16],
-    rs: &[u16],
-    rc: &[u16],
-    or: &[u16],
-    oc: &[u16],
-) -> bool
-    ensures { λ answer. ⌜ Says answer (Takes size total
-        (lists (now (cs .entry)) (now (cr .entry)) (now (rs .entry)) (now (rc .entry)) (now (or .entry)) (now (oc .entry)))) ⌝ }
-{
-    if cs.len() <= size {
-        return false;
-    }
-    if cr.len() < total {
-        return false;
-    }
-    if rs.len() <= size {
-        return false;
-    }
-    if rc.len() < total {
-        return false;
-    }
-    if or.len() < size {
-        return false;
-    }
-    if oc.len() < size {
-        return false;
-    }
-    true
 }
 
 // Reads a sheet into the lists, which change only where it is accepted.

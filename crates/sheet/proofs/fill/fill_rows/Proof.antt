@@ -8,7 +8,7 @@ use Rattle.sheet.specs.Passes.{thing}
 use Rattle.sheet.specs.Reading.{rows-at}
 use Rattle.sheet.proofs.Lefts.{left-none, left-long, left-all}
 use Rattle.sheet.proofs.Rereads.{Rows-left, row-known, Row-met, row-met}
-use Rattle.sheet.proofs.Storing.{Stored, stored-none, stored-more, stored-all}
+use Rattle.register.proofs.Storing.{Stored, stored-none, stored-more, stored-all}
 use Rattle.sheet.proofs.fill.fill_rows.Statement.{statement}
 use Rattle.sheet.proofs.fill.fill_rows.Tie as tie
 

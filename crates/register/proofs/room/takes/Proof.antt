@@ -1,8 +1,8 @@
 -- `takes`: one length after another.
 use native.Mathlib.Omega.{arith}
 use Rattle.register.proofs.Answers.{told-yes, told-no}
-use Rattle.sheet.proofs.takes.Statement.{statement}
-use Rattle.sheet.proofs.takes.Tie as tie
+use Rattle.register.proofs.room.takes.Statement.{statement}
+use Rattle.register.proofs.room.takes.Tie as tie
 
 pub takes-spec : {M : Type 1} → statement M
 takes-spec =

@@ -1,4 +1,4 @@
--- A list that is stored number by number, from place `k` of another on. Rests on `register`.
+-- A list that is stored number by number, from place `k` of another on. Rests on Puts.antt.
 use mathlib.Core.List.{List, [], _∷_, _++_}
 use mathlib.Core.Path.{_≡_, refl, sym, ap, _∙_}
 use Prim.Native.Nat.{ℕ, _+_, _≤_, _<_}

@@ -1,0 +1,78 @@
+-- The text of a line: a word, and numbers in plain decimals, each after a single space. Rests on `sheet` and `pattern`.
+use mathlib.Core.Bool.{cond}
+use mathlib.Core.List.{List, [], _∷_, _++_}
+use mathlib.Core.Path.{_≡_}
+use Prim.Native.Nat.{ℕ, zero, suc, _+_, _/_, _%_, _≤_, _<_}
+use lib.Dec.{ltb}
+use lib.ListN.{length}
+use Rattle.pattern.specs.Places.{at}
+use Rattle.sheet.specs.Sheet.{series}
+
+-- The byte that ends a line, that before a number, and that between a row and a column.
+abbrev pub LF : ℕ
+LF = 10
+
+abbrev pub space : ℕ
+space = 32
+
+abbrev pub colon : ℕ
+colon = 58
+
+-- The greatest number of a line, and the greatest length of one without its LF.
+abbrev pub max-number : ℕ
+max-number = 65535
+
+abbrev pub max-line : ℕ
+max-line = 8000
+
+-- No reply line has more bytes.
+abbrev pub max-reply : ℕ
+max-reply = 20000
+
+-- A line has no more numbers.
+abbrev pub max-numbers : ℕ
+max-numbers = 4000
+
+-- The greatest number of a line that can be counted.
+abbrev pub max-count : ℕ
+max-count = 18446744073709551615
+
+-- ---- Words
+
+unfoldable pub order-word : List ℕ
+order-word = 111 ∷ 114 ∷ 100 ∷ 101 ∷ 114 ∷ []
+
+unfoldable pub col-word : List ℕ
+col-word = 99 ∷ 111 ∷ 108 ∷ []
+
+unfoldable pub put-word : List ℕ
+put-word = 112 ∷ 117 ∷ 116 ∷ []
+
+-- ---- Numbers
+
+-- The last digits of a number, at most so many.
+unfoldable pub digits : (most n : ℕ) → List ℕ
+digits zero n = []
+digits (suc most) n = cond (ltb n 10) ((48 + n) ∷ []) (digits most (n / 10) ++ ((48 + n % 10) ∷ []))
+
+-- A number as a plain decimal: its digit where it is below 10, else the decimal of its tenth part and its last digit. It has fewer
+-- digits than `suc n`, and no leading zeros.
+unfoldable pub decimal : ℕ → List ℕ
+decimal n = digits (suc n) n
+
+-- Numbers, each after a space. (What a series carries along has no part in it.)
+abbrev pub carried : {A : Type 0} → ℕ → A → ℕ
+carried s x = s
+
+abbrev pub spaced-number : ℕ → ℕ → List ℕ
+spaced-number s n = space ∷ decimal n
+
+abbrev pub spaced : List ℕ → List ℕ
+spaced = series spaced-number carried 0
+
+-- ---- Lines
+
+-- The line, without its LF, is the word and the numbers, and no number is over 65,535.
+pub record Speaks (line word numbers : List ℕ) : Type 0 where
+  pub is : line ≡ word ++ spaced numbers
+  pub small : (i : ℕ) → i < length numbers → at numbers i ≤ max-number
