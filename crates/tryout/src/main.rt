@@ -1,6 +1,7 @@
 // The tryout program: reads a text of replacements from standard input and writes a reply line for each. The bytes of each read are
 // fed to a run of `script`, and what that printed is written at once.
 use script::State;
+ghost use Prim.Native.Nat.{_<_};
 
 // What a text works in; the entry lists have 12,000 places.
 const STARTS: usize = 1001;
@@ -57,6 +58,17 @@ fn work(
     st
 }
 
+// How many reads are left: as many as can be counted, and none after the run's end.
+fn left(turns: u64, state: State) -> u64
+    requires { ⌜ 0 < turns ⌝ }
+    ensures { λ r. ⌜ r < turns ⌝ }
+{
+    if script::ended(state) {
+        return 0;
+    }
+    turns - 1
+}
+
 fn main() {
     let mut buf = io::large_buffer();
     let mut out = io::large_buffer();
@@ -75,26 +87,24 @@ fn main() {
         let got = libc::read(0, &mut buf);
         let n = io::count(got, &buf);
         if n == 0 {
-            break;
+            turns = 0;
+        } else {
+            state = work(
+                &buf[..n],
+                state,
+                &mut line,
+                &mut numbers,
+                &mut cs,
+                &mut cr,
+                &mut rs,
+                &mut rc,
+                &mut or,
+                &mut oc,
+                &mut eta,
+                &mut out,
+            );
+            turns = left(turns, state);
         }
-        state = work(
-            &buf[..n],
-            state,
-            &mut line,
-            &mut numbers,
-            &mut cs,
-            &mut cr,
-            &mut rs,
-            &mut rc,
-            &mut or,
-            &mut oc,
-            &mut eta,
-            &mut out,
-        );
-        if script::ended(state) {
-            break;
-        }
-        turns -= 1;
     }
     let rest = script::finish(state, &mut out);
     io::write_all(1, &out[..rest]);

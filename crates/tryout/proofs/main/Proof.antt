@@ -1,121 +1,42 @@
-use mathlib.Core.Path.{_≡_, refl, sym, ap, _∙_, subst}
-use Prim.Native.Nat.{ℕ, _+_, _-_, _≤_, _<_}
-use native.Mathlib.Omega.{arith}
-use lib.ListN.{length, getD, take, drop, set, length-set}
+-- `main` is safe and ends: the lists keep their lengths, and the reads that are left fall.
+use mathlib.Core.Path.{_≡_, refl, sym, _∙_}
+use lib.ListN.{length}
+use lib.Seq.{length-take-le}
 use borrow.Author.Needs.{needs}
+use Rattle.script.proofs.Bounds.{finishes-written}
 use Rattle.tryout.proofs.main.Statement.{statement}
 use Rattle.tryout.proofs.main.Tie as tie
-use Rattle.tryout.proofs.main.Reads as reads
-use Rattle.tryout.proofs.main.Lts as lts
-use Rattle.io.proofs.count.Reads as count-reads
-use Rattle.io.proofs.large_buffer.Reads as large-buffer-reads
-use Rattle.io.proofs.write_all.Reads as write-all-reads
-use Rattle.libc.proofs.read.Reads as read-reads
-use Rattle.script.proofs.begin.Reads as begin-reads
-use Rattle.script.proofs.ended.Reads as ended-reads
-use Rattle.script.proofs.finish.Reads as finish-reads
-use Rattle.tryout.proofs.work.Reads as work-reads
 
 abbrev Inv-loop : tie.InvT-loop
 Inv-loop buf₀ out₀ line₀ numbers₀ cs₀ cr₀ rs₀ rc₀ or₀ oc₀ eta₀ state₀ turns₀ buf out line numbers cs cr rs rc or oc eta state turns =
-    ?
+    (65536 ≡ length buf)
+    × (65536 ≡ length out)
+    × (8000 ≡ length line)
+    × (4000 ≡ length numbers)
+    × (1001 ≡ length cs)
+    × (12000 ≡ length cr)
+    × (1001 ≡ length rs)
+    × (12000 ≡ length rc)
+    × (1000 ≡ length or)
+    × (1000 ≡ length oc)
+    × (1000 ≡ length eta)
 
 abbrev μ-loop : tie.MeasureT-loop
-μ-loop buf₀ out₀ line₀ numbers₀ cs₀ cr₀ rs₀ rc₀ or₀ oc₀ eta₀ state₀ turns₀ buf out line numbers cs cr rs rc or oc eta state turns =
-    ?
-
-large-buffer-requires : tie.Need-large-buffer-requires Inv-loop μ-loop
-large-buffer-requires c κs = search needs
-
-large-buffer-requires-2 : tie.Need-large-buffer-requires-2 Inv-loop μ-loop
-large-buffer-requires-2 c κs = ?
-
-begin-requires : tie.Need-begin-requires Inv-loop μ-loop
-begin-requires c κs = search needs
+μ-loop buf₀ out₀ line₀ numbers₀ cs₀ cr₀ rs₀ rc₀ or₀ oc₀ eta₀ state₀ turns₀ buf out line numbers cs cr rs rc or oc eta state turns = turns
 
 loop-holds : tie.Need-loop-holds Inv-loop μ-loop
-loop-holds c = ?
-
-slice-aggregate-read : tie.Need-slice-aggregate-read Inv-loop μ-loop
-slice-aggregate-read c = search needs
-
-read-requires : tie.Need-read-requires Inv-loop μ-loop
-read-requires c κs = search needs
-
-slice-aggregate-count : tie.Need-slice-aggregate-count Inv-loop μ-loop
-slice-aggregate-count c = search needs
-
-count-requires : tie.Need-count-requires Inv-loop μ-loop
-count-requires c κs = search needs
-
-array-share-prefix-buf : tie.Need-array-share-prefix-buf Inv-loop μ-loop
-array-share-prefix-buf c = search needs
-
-slice-aggregate-work : tie.Need-slice-aggregate-work Inv-loop μ-loop
-slice-aggregate-work c = search needs
-
-slice-aggregate-work-2 : tie.Need-slice-aggregate-work-2 Inv-loop μ-loop
-slice-aggregate-work-2 c = search needs
-
-slice-aggregate-work-3 : tie.Need-slice-aggregate-work-3 Inv-loop μ-loop
-slice-aggregate-work-3 c = search needs
-
-slice-aggregate-work-4 : tie.Need-slice-aggregate-work-4 Inv-loop μ-loop
-slice-aggregate-work-4 c = search needs
-
-slice-aggregate-work-5 : tie.Need-slice-aggregate-work-5 Inv-loop μ-loop
-slice-aggregate-work-5 c = search needs
-
-slice-aggregate-work-6 : tie.Need-slice-aggregate-work-6 Inv-loop μ-loop
-slice-aggregate-work-6 c = search needs
-
-slice-aggregate-work-7 : tie.Need-slice-aggregate-work-7 Inv-loop μ-loop
-slice-aggregate-work-7 c = search needs
-
-slice-aggregate-work-8 : tie.Need-slice-aggregate-work-8 Inv-loop μ-loop
-slice-aggregate-work-8 c = search needs
-
-slice-aggregate-work-9 : tie.Need-slice-aggregate-work-9 Inv-loop μ-loop
-slice-aggregate-work-9 c = search needs
-
-slice-aggregate-work-10 : tie.Need-slice-aggregate-work-10 Inv-loop μ-loop
-slice-aggregate-work-10 c = search needs
-
-slice-aggregate-work-11 : tie.Need-slice-aggregate-work-11 Inv-loop μ-loop
-slice-aggregate-work-11 c = search needs
-
-work-requires : tie.Need-work-requires Inv-loop μ-loop
-work-requires c κs = search needs
-
-ended-requires : tie.Need-ended-requires Inv-loop μ-loop
-ended-requires c κs = search needs
-
-sub-turns : tie.Need-sub-turns Inv-loop μ-loop
-sub-turns c = search needs
-
-loop-less : tie.Need-loop-less Inv-loop μ-loop
-loop-less c = search needs
+loop-holds c = (c .before .before .large-buffer .ensures, c .before .large-buffer2 .ensures, refl, refl, refl, refl, refl, refl, refl, refl, refl)
 
 loop-again : tie.Need-loop-again Inv-loop μ-loop
-loop-again c = ?
+loop-again c =
+    let i = c .before .before .before .before .before .before .before .loop .inv in
+    (i .0 ∙ sym (c .before .before .before .before .read .kept .1 .0), i .1, i .2, i .3, i .4, i .5, i .6, i .7, i .8, i .9, i .10)
 
-slice-aggregate-finish : tie.Need-slice-aggregate-finish Inv-loop μ-loop
-slice-aggregate-finish c = search needs
-
-finish-requires : tie.Need-finish-requires Inv-loop μ-loop
-finish-requires c κs = search needs
-
-array-share-prefix-out : tie.Need-array-share-prefix-out Inv-loop μ-loop
-array-share-prefix-out c = search needs
-
-slice-aggregate-write-all : tie.Need-slice-aggregate-write-all Inv-loop μ-loop
-slice-aggregate-write-all c = search needs
-
-write-all-requires : tie.Need-write-all-requires Inv-loop μ-loop
-write-all-requires c κs = search needs
-
-returns : tie.Need-returns Inv-loop μ-loop
-returns c = ?
+loop-again-2 : tie.Need-loop-again-2 Inv-loop μ-loop
+loop-again-2 c =
+    let i = c .before .before .before .before .before .before .before .before .before .before .before .before .before .before .before .before .before .before .before .before .before .before .before .before .before .before .before .before .before .before .loop .inv in
+    let w = c .before .before .before .before .before .before .before .before .before .before .before .work in
+    (i .0 ∙ sym (c .before .before .before .before .before .before .before .before .before .before .before .before .before .before .before .before .before .before .before .before .before .before .before .before .before .before .before .read .kept .1 .0), i .1 ∙ sym (w .kept .1 .1 .1 .1 .1 .1 .1 .1 .1 .1 .1 .0), i .2 ∙ sym (w .kept .1 .1 .0), i .3 ∙ sym (w .kept .1 .1 .1 .0), i .4 ∙ sym (w .kept .1 .1 .1 .1 .0), i .5 ∙ sym (w .kept .1 .1 .1 .1 .1 .0), i .6 ∙ sym (w .kept .1 .1 .1 .1 .1 .1 .0), i .7 ∙ sym (w .kept .1 .1 .1 .1 .1 .1 .1 .0), i .8 ∙ sym (w .kept .1 .1 .1 .1 .1 .1 .1 .1 .0), i .9 ∙ sym (w .kept .1 .1 .1 .1 .1 .1 .1 .1 .1 .0), i .10 ∙ sym (w .kept .1 .1 .1 .1 .1 .1 .1 .1 .1 .1 .0))
 
 pub main-spec : {M : Type 1} → statement M
 main-spec =
@@ -123,34 +44,35 @@ main-spec =
     (tie.spec
     Inv-loop
     μ-loop
-    large-buffer-requires
-    large-buffer-requires-2
-    begin-requires
+    (λ c κs. search needs)
+    (λ c κs. search needs)
+    (λ c κs. search needs)
     loop-holds
-    slice-aggregate-read
-    read-requires
-    slice-aggregate-count
-    count-requires
-    array-share-prefix-buf
-    slice-aggregate-work
-    slice-aggregate-work-2
-    slice-aggregate-work-3
-    slice-aggregate-work-4
-    slice-aggregate-work-5
-    slice-aggregate-work-6
-    slice-aggregate-work-7
-    slice-aggregate-work-8
-    slice-aggregate-work-9
-    slice-aggregate-work-10
-    slice-aggregate-work-11
-    work-requires
-    ended-requires
-    sub-turns
-    loop-less
+    (λ c. search needs)
+    (λ c κs. search needs)
+    (λ c. search needs)
+    (λ c κs. search needs)
+    (λ c. search needs)
     loop-again
-    slice-aggregate-finish
-    finish-requires
-    array-share-prefix-out
-    slice-aggregate-write-all
-    write-all-requires
-    returns)
+    (λ c. search needs)
+    (λ c. search needs)
+    (λ c. search needs)
+    (λ c. search needs)
+    (λ c. search needs)
+    (λ c. search needs)
+    (λ c. search needs)
+    (λ c. search needs)
+    (λ c. search needs)
+    (λ c. search needs)
+    (λ c. search needs)
+    (λ c. search needs)
+    (λ c κs. search needs)
+    (λ c κs. search needs)
+    (λ c. search needs)
+    loop-again-2
+    (λ c. search needs)
+    (λ c κs. search needs)
+    (λ c. finishes-written (c .before .before .before .before .loop .state) (c .before .finish .ensures))
+    (λ c. sym (length-take-le _ _ (finishes-written (c .before .before .before .before .before .loop .state) (c .before .before .finish .ensures))))
+    (λ c κs. search needs)
+    (λ c. tt))
