@@ -27,7 +27,7 @@ use Rattle.script.specs.Replies.{
   verdict-text,
 }
 use Rattle.script.specs.Shown.{max-word, max-answer, Stands}
-use Rattle.script.specs.Text.{LF, put-word, max-number, max-reply, max-count, colon, decimal, carried, spaced-number, spaced}
+use Rattle.script.specs.Text.{LF, put-word, max-number, max-reply, max-count, colon, decimal, carried, spaced-number, spaced, Small}
 use Rattle.script.proofs.Decimals.{decimal-five, decimal-twenty}
 use Rattle.script.proofs.Spaced.{spaced-one}
 
@@ -55,14 +55,10 @@ opening-few c h = omega (arith, spaced-length c, decimal-five c h)
 
 -- ---- Lists of 16-bit numbers
 
--- No number of the list is over 65,535.
-abbrev pub Narrow : List ℕ → Type 0
-Narrow l = (i : ℕ) → i < length l → at l i ≤ max-number
-
-spaced-few : (l : List ℕ) → Narrow l → length (spaced l) ≤ length l * 6
+spaced-few : (l : List ℕ) → Small l → length (spaced l) ≤ length l * 6
 spaced-few l small = series-few spaced-number carried 6 l 0 (λ k s h. omega (arith, decimal-five (at l k) (small k h))) 0
 
-eta-few : (eta : List ℕ) → length eta ≤ max-size → Narrow eta → length (eta-text eta) ≤ 6000
+eta-few : (eta : List ℕ) → length eta ≤ max-size → Small eta → length (eta-text eta) ≤ 6000
 unfolding none-word
 eta-few [] h small = omega arith
 eta-few (r ∷ eta) h small = omega (arith, spaced-few (r ∷ eta) small)
@@ -70,7 +66,7 @@ eta-few (r ∷ eta) h small = omega (arith, spaced-few (r ∷ eta) small)
 place-few : (s r c : ℕ) → r ≤ max-number → c ≤ max-number → length (place-text s (r, c)) ≤ 12
 place-few s r c h k = omega (arith, length-append (decimal r) (colon ∷ decimal c), decimal-five r h, decimal-five c k)
 
-module _ (m : ℕ) (rows cols : List ℕ) (h : m ≤ max-size) (in-rows : m ≤ length rows) (in-cols : m ≤ length cols) (R : Narrow rows) (C : Narrow cols) where
+module _ (m : ℕ) (rows cols : List ℕ) (h : m ≤ max-size) (in-rows : m ≤ length rows) (in-cols : m ≤ length cols) (R : Small rows) (C : Small cols) where
   abbrev order : List (ℕ × ℕ)
   order = pairs m rows cols
 
@@ -103,7 +99,7 @@ module _ (word : List ℕ) (bump : ℕ) (eta : List ℕ) (order : List (ℕ × �
       )
 
 pub verdict-few : {m : ℕ} {rows cols eta : List ℕ} (word : List ℕ) (bump : ℕ) → length word ≤ max-word → bump ≤ max-count → Stands m (length eta) rows cols eta
-    → Narrow rows → Narrow cols → Narrow eta → length (verdict-text word bump eta (pairs m rows cols)) ≤ max-answer
+    → Small rows → Small cols → Small eta → length (verdict-text word bump eta (pairs m rows cols)) ≤ max-answer
 verdict-few {m} {rows} {cols} {eta} word bump h b S R C E =
     omega (
       arith,

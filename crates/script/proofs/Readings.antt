@@ -4,10 +4,8 @@ use mathlib.Core.Path.{_≡_, refl, sym, ap, _∙_, subst}
 use Prim.Native.Nat.{ℕ, zero, suc, _+_, _*_, _/_, _%_, _≤_, _<_}
 use native.Mathlib.Decide.{decLt}
 use native.Mathlib.Omega.{arith}
-use lib.ListN.{length}
-use Rattle.pattern.specs.Places.{at}
 use Rattle.script.specs.Spelling.{Spelt, empty, gap, inside, wrong, with-space, with-byte}
-use Rattle.script.specs.Text.{space, max-number, decimal, spaced}
+use Rattle.script.specs.Text.{space, max-number, decimal, spaced, Small}
 use Rattle.script.proofs.Decimals.{decimal-digit, decimal-more}
 use Rattle.script.proofs.SpacedLaws.{spaced-none, spaced-front}
 use Rattle.script.proofs.Spellings.{space-more, digit-more, number-more, wrong-more}
@@ -73,10 +71,6 @@ ends-gap empty e = ap gap (sym e)
 ends-gap (gap j) e = absurd e
 ends-gap (inside j v) e = ap gap (sym e)
 ends-gap wrong e = absurd e
-
--- No number is over 65,535.
-abbrev pub Small : List ℕ → Type 0
-Small l = (i : ℕ) → i < length l → at l i ≤ max-number
 
 reads-number : (x : Spelt) (k : List ℕ) (n : ℕ) → Ends x k → n ≤ max-number → reads x (space ∷ decimal n) ≡ inside k n
 reads-number x k n e h =

@@ -8,9 +8,9 @@ use lib.ListN.{length, length-append, List·getD-append}
 use lib.Seq.{getD-at}
 use Rattle.pattern.specs.Places.{at}
 use Rattle.script.specs.Spelling.{Spelt, empty, gap, inside, wrong, with-space, with-digit, with-byte, stand, passed}
-use Rattle.script.specs.Text.{space, max-number, decimal, spaced}
+use Rattle.script.specs.Text.{space, max-number, decimal, spaced, Small}
 use Rattle.script.proofs.Decimals.{decimal-digit, decimal-next}
-use Rattle.script.proofs.Readings.{reads, reads-none, reads-front, Ends, Small}
+use Rattle.script.proofs.Readings.{reads, reads-none, reads-front, Ends}
 use Rattle.script.proofs.SpacedLaws.{spaced-none, spaced-behind, spaced-long}
 use Rattle.script.proofs.Spellings.{byte-cases, number-cases}
 

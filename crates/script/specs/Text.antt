@@ -72,7 +72,11 @@ spaced = series spaced-number carried 0
 
 -- ---- Lines
 
+-- No number is over 65,535.
+abbrev pub Small : List ℕ → Type 0
+Small l = (i : ℕ) → i < length l → at l i ≤ max-number
+
 -- The line, without its LF, is the word and the numbers, and no number is over 65,535.
 pub record Speaks (line word numbers : List ℕ) : Type 0 where
   pub is : line ≡ word ++ spaced numbers
-  pub small : (i : ℕ) → i < length numbers → at numbers i ≤ max-number
+  pub small : Small numbers

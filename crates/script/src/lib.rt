@@ -81,23 +81,23 @@ pub fn feed(
     state: State,
     line: &mut [u8],
     numbers: &mut [u16],
-    cs: &mut [u16],
-    cr: &mut [u16],
-    rs: &mut [u16],
-    rc: &mut [u16],
-    or: &mut [u16],
-    oc: &mut [u16],
+    col_starts: &mut [u16],
+    col_rows: &mut [u16],
+    row_starts: &mut [u16],
+    row_cols: &mut [u16],
+    order_rows: &mut [u16],
+    order_cols: &mut [u16],
     eta: &mut [u16],
     out: &mut [u8],
 ) -> Fed
     ensures { λ r. ⌜ Feeds
         (run state
-        (lent (lists (now (cs .entry)) (now (cr .entry)) (now (rs .entry)) (now (rc .entry)) (now (or .entry)) (now (oc .entry)))
+        (lent (lists (now («col_starts» .entry)) (now («col_rows» .entry)) (now («row_starts» .entry)) (now («row_cols» .entry)) (now («order_rows» .entry)) (now («order_cols» .entry)))
         (now (eta .entry)) (now (numbers .entry)) (now (line .entry))))
         (now (chunk .entry)) (now (out .entry))
         (fed-out
         (run (r .state)
-        (lent (lists (now (cs .exit)) (now (cr .exit)) (now (rs .exit)) (now (rc .exit)) (now (or .exit)) (now (oc .exit)))
+        (lent (lists (now («col_starts» .exit)) (now («col_rows» .exit)) (now («row_starts» .exit)) (now («row_cols» .exit)) (now («order_rows» .exit)) (now («order_cols» .exit)))
         (now (eta .exit)) (now (numbers .exit)) (now (line .exit))))
         (r .taken) (r .written) (now (out .exit))) ⌝ }
 {
@@ -106,12 +106,12 @@ pub fn feed(
         state,
         line,
         numbers,
-        cs,
-        cr,
-        rs,
-        rc,
-        or,
-        oc,
+        col_starts,
+        col_rows,
+        row_starts,
+        row_cols,
+        order_rows,
+        order_cols,
         eta,
     ) {
         return Fed {
@@ -125,12 +125,12 @@ pub fn feed(
         state,
         line,
         numbers,
-        cs,
-        cr,
-        rs,
-        rc,
-        or,
-        oc,
+        col_starts,
+        col_rows,
+        row_starts,
+        row_cols,
+        order_rows,
+        order_cols,
         eta,
         out,
     )

@@ -1,7 +1,8 @@
 -- `put_any_verdict`: no verdict is longer than the room.
 use native.Mathlib.Omega.{arith}
 use borrow.Author.Needs.{needs}
-use Rattle.script.proofs.Lengths.{Narrow, verdict-few}
+use Rattle.script.specs.Text.{Small}
+use Rattle.script.proofs.Lengths.{verdict-few}
 use Rattle.script.proofs.replies.put_any_verdict.Statement.{statement}
 use Rattle.script.proofs.replies.put_any_verdict.Tie as tie
 
@@ -10,20 +11,20 @@ module _ (k : tie.After-slice-known) where
   abbrev begun : tie.Start
   begun = k .before .before .before .before .before
 
-  narrow-rows : Narrow (begun .args .rows .now)
-  narrow-rows i h = omega (arith, k .before .before .shared-slice-known3 .given i)
+  small-rows : Small (begun .args .rows .now)
+  small-rows i h = omega (arith, k .before .before .shared-slice-known3 .given i)
 
-  narrow-cols : Narrow (begun .args .cols .now)
-  narrow-cols i h = omega (arith, k .before .shared-slice-known4 .given i)
+  small-cols : Small (begun .args .cols .now)
+  small-cols i h = omega (arith, k .before .shared-slice-known4 .given i)
 
-  narrow-eta : Narrow (begun .args .eta .now)
-  narrow-eta i h = omega (arith, k .before .before .before .shared-slice-known2 .given i)
+  small-eta : Small (begun .args .eta .now)
+  small-eta i h = omega (arith, k .before .before .before .shared-slice-known2 .given i)
 
 put-verdict-requires : tie.Need-put-verdict-requires
 put-verdict-requires c κs =
     let k = c .before in
     let s = begun k in
-    let few = verdict-few (s .args .word .now) (s .args .bump) (s .pre .0) (omega (arith, s .fits .bump)) (s .pre .1) (narrow-rows k) (narrow-cols k) (narrow-eta k) in
+    let few = verdict-few (s .args .word .now) (s .args .bump) (s .pre .0) (omega (arith, s .fits .bump)) (s .pre .1) (small-rows k) (small-cols k) (small-eta k) in
     (s .pre .1 .in-rows, s .pre .1 .in-cols, omega (arith, few, s .pre .2))
 
 returns : tie.Need-returns
