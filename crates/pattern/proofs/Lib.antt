@@ -9,11 +9,13 @@ pub mod Peeling
 pub mod Leading
 pub mod NoChoice
 pub mod SomeChoice
+pub mod TwoChoices
 pub mod ToLast
 pub mod Rises
 pub mod Greatest
 pub mod Verdicts
 pub mod Growing
+pub mod OldPeel
 pub mod Peeled
 pub mod Reaching
 pub mod Numbers

@@ -140,15 +140,18 @@ module _ {E : Pattern} {m : ℕ} {row col : ℕ → ℕ} (s : Sound E m row col)
   pub reach-later : {c : ℕ} → c < m → {x : ℕ} → Reach E m row col c x → place col m c ≤ place col m x
   reach-later cm k = freed cm k .later
 
-  -- A new row is paired with a reached column: not SINGULAR.
+  -- A new row is paired with a reached column: a full choice takes it in column `c`, and so not SINGULAR.
   pub reached-choice : {E′ : Pattern} {c : ℕ} {New : ℕ → Type 0} → Spiked E E′ c New → c < m
       → (x r : ℕ) → Reach E m row col c x → Paired m row col r x → New r
-      → (σ : ℕ → ℕ) × Choice E′ m σ
-  reached-choice {E′} {c} {New} w cm x r k p n = (f .τ, record { rows = f .rows; chosen = λ y h. own y h (ℕ-discrete y c) })
+      → (σ : ℕ → ℕ) × Choice E′ m σ × (σ c ≡ r)
+  reached-choice {E′} {c} {New} w cm x r k p n = (f .τ, record { rows = f .rows; chosen = λ y h. own y h (ℕ-discrete y c) }, taken)
     where
       f : Freed E m row col c x
       f = freed cm k
 
+      taken : f .τ c ≡ r
+      taken = f .given ∙ paired-partner s r x p
+
       own : (y : ℕ) → y < m → Dec (y ≡ c) → E′ (f .τ y) y
-      own y h (yes u) = subst (λ (z : ℕ). E′ (f .τ z) z) (sym u) (w .changed (f .τ c) .1 (subst New (sym (f .given ∙ paired-partner s r x p)) n))
+      own y h (yes u) = subst (λ (z : ℕ). E′ (f .τ z) z) (sym u) (w .changed (f .τ c) .1 (subst New (sym taken) n))
       own y h (no u) = w .others (f .τ y) y u .0 (f .chosen y h u)

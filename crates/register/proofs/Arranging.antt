@@ -60,22 +60,9 @@ module _ {m : ℕ} {f : ℕ → ℕ} {old : List ℕ} where
       let e : f (at order i) ≡ i = g .gives (at order i) b ∙ place-at (g .once) i h in
       ap (at now) (sym e) ∙ L .stand order g (at order i) b)
 
--- The places of an order's rows, and the greatest places of its columns' rows.
-pub rows-place : {m : ℕ} {places : List ℕ} (order : List ℕ) → length order ≡ m → Placed m (at order) places → Gives-places m order (at places)
-rows-place order e L = record { long = e; once = L .once; gives = L .stand }
-
-pub cols-place : {m : ℕ} {cs cr places : List ℕ} {row : ℕ → ℕ} → Good m cs cr → (order : List ℕ) → length order ≡ m → Placed m row places
-    → Sound (Entry (parts m cs cr)) m row (at order) → Gives-places m order (λ y. greatest (at places) (part cs cr y))
-cols-place {m} {cs} {cr} {places} G order e L S =
-    record {
-      long = e;
-      once = S .cols;
-      gives = λ y h.
-          let p = place-of (S .cols) y h in
-          ap (greatest (at places)) (sym (part-is m cs cr y h))
-          ∙ ap (λ (c : ℕ). greatest (at places) (column (parts m cs cr) c)) (sym (p .1))
-          ∙ sound-topped (good-columns G) L (at order) S (place (at order) m y) (p .0) .top;
-    }
+-- The places of an order's numbers.
+pub order-places : {m : ℕ} {places : List ℕ} (order : List ℕ) → length order ≡ m → Placed m (at order) places → Gives-places m order (at places)
+order-places order e L = record { long = e; once = L .once; gives = L .stand }
 
 -- ---- To the last place
 

@@ -16,6 +16,9 @@ module _ (a b : ℕ) (l : List ℕ) where
   pub between-at : (i : ℕ) → a + i < b → at (between a b l) i ≡ at l (a + i)
   between-at i h = getD-take (b - a) (drop a l) i 0 (omega arith) ∙ getD-drop a l i 0
 
+pub between-front : (n : ℕ) (l : List ℕ) → between 0 n l ≡ take n l
+between-front n l = let e : n - 0 ≡ n = omega arith in ap (λ (k : ℕ). take k l) e
+
 pub between-none : (a : ℕ) (l : List ℕ) → between a a l ≡ []
 between-none a l = let e : a - a ≡ 0 = omega arith in ap (λ (n : ℕ). take n (drop a l)) e
 

@@ -1,6 +1,5 @@
 -- What each judgment tells, and that the changes made after it leave the verdict's outcome. Rests on specs/Judge.antt,
 -- Spikes.antt and Readback.antt.
-use mathlib.Core.Bool.{Bool}
 use mathlib.Core.List.{List}
 use mathlib.Core.Path.{_≡_, refl, sym, ap, _∙_}
 use Prim.Native.Nat.{ℕ}
@@ -23,8 +22,7 @@ use Rattle.register.specs.Listing.{parts, Good}
 use Rattle.register.specs.Order.{Placed}
 use Rattle.register.specs.Replace.{asked, outcome, Answered}
 use Rattle.register.specs.Reply.{Reply, singular, permuted, elimination}
-use Rattle.register.specs.Sets.{With, Of-list}
-use Rattle.register.specs.Store.{exchanged}
+use Rattle.register.specs.Store.{joined, exchanged}
 use Rattle.register.specs.declared.Judgment.{Judgment}
 use Rattle.register.specs.declared.Judgment.the-variants as judgment
 use Rattle.register.proofs.Calls.{call-columns, call-size}
@@ -45,12 +43,13 @@ figures judgment.Permuted = (0, 0)
 figures (judgment.Elimination b n) = (b, n)
 
 -- The rows and columns of a PERMUTED order.
-pub record Permutes (a : Call) (places eta′ : List ℕ) : Type 0 where
+pub record Permutes (a : Call) (row-places col-places eta′ : List ℕ) : Type 0 where
   pub rows : List ℕ
   pub cols : List ℕ
   pub right : Is-permuted (asked a) rows cols
   pub eta-kept : eta′ ≡ a .eta
-  pub placed : Placed (a .size) (at rows) places
+  pub rows-placed : Placed (a .size) (at rows) row-places
+  pub cols-placed : Placed (a .size) (at cols) col-places
 
 -- Those of ELIMINATION, and its eta rows.
 pub record Eliminates (a : Call) (eta′ : List ℕ) (b n : ℕ) : Type 0 where
@@ -61,30 +60,30 @@ pub record Eliminates (a : Call) (eta′ : List ℕ) (b n : ℕ) : Type 0 where
   pub count : n ≡ length eta
   pub eta-after : eta′ ≡ over eta (a .eta)
 
-module _ {a : Call} {places eta′ : List ℕ} where
-  told-singular : Judges a places eta′ judgment.Singular → No-choice (Spike (asked a)) (size (asked a)) × (eta′ ≡ a .eta)
+module _ {a : Call} {row-places col-places eta′ : List ℕ} where
+  told-singular : Judges a row-places col-places eta′ judgment.Singular → No-choice (Spike (asked a)) (size (asked a)) × (eta′ ≡ a .eta)
   unfolding kind
   told-singular k = go (k .verdict) (k .right) (k .tells)
     where
-      go : (v : Verdict) → Judged (asked a) v → Tells a places eta′ judgment.Singular v → No-choice (Spike (asked a)) (size (asked a)) × (eta′ ≡ a .eta)
+      go : (v : Verdict) → Judged (asked a) v → Tells a row-places col-places eta′ judgment.Singular v → No-choice (Spike (asked a)) (size (asked a)) × (eta′ ≡ a .eta)
       go Singular j t = (j, t .1)
       go (Permuted rows cols) j t = absurd (omega (arith, ap kind (t .0)))
       go (Elimination rows cols b e) j t = absurd (omega (arith, ap kind (t .0)))
 
-  pub told-permuted : Judges a places eta′ judgment.Permuted → Permutes a places eta′
+  pub told-permuted : Judges a row-places col-places eta′ judgment.Permuted → Permutes a row-places col-places eta′
   unfolding kind
   told-permuted k = go (k .verdict) (k .right) (k .tells)
     where
-      go : (v : Verdict) → Judged (asked a) v → Tells a places eta′ judgment.Permuted v → Permutes a places eta′
+      go : (v : Verdict) → Judged (asked a) v → Tells a row-places col-places eta′ judgment.Permuted v → Permutes a row-places col-places eta′
       go Singular j t = absurd (omega (arith, ap kind (t .0)))
-      go (Permuted rows cols) j t = record { rows = rows; cols = cols; right = j; eta-kept = t .1; placed = t .2 }
+      go (Permuted rows cols) j t = record { rows = rows; cols = cols; right = j; eta-kept = t .1; rows-placed = t .2; cols-placed = t .3 }
       go (Elimination rows cols b e) j t = absurd (omega (arith, ap kind (t .0)))
 
-  pub told-elimination : {b n : ℕ} → Judges a places eta′ (judgment.Elimination b n) → Eliminates a eta′ b n
+  pub told-elimination : {b n : ℕ} → Judges a row-places col-places eta′ (judgment.Elimination b n) → Eliminates a eta′ b n
   unfolding kind figures
   told-elimination {b} {n} k = go (k .verdict) (k .right) (k .tells)
     where
-      go : (v : Verdict) → Judged (asked a) v → Tells a places eta′ (judgment.Elimination b n) v → Eliminates a eta′ b n
+      go : (v : Verdict) → Judged (asked a) v → Tells a row-places col-places eta′ (judgment.Elimination b n) v → Eliminates a eta′ b n
       go Singular j t = absurd (omega (arith, ap kind (t .0)))
       go (Permuted rows cols) j t = absurd (omega (arith, ap kind (t .0)))
       go (Elimination rows cols d e) j t =
@@ -101,7 +100,7 @@ outcome-same : {r r′ : Reply} {l l′ : Lists} {e e′ : List ℕ} → r ≡ r
 outcome-same a b c = cc (a, b, c)
 
 -- SINGULAR: nothing changes.
-pub unchanged : {a : Call} {places eta′ : List ℕ} → Judges a places eta′ judgment.Singular → Answered a (outcome singular (a .lists) eta′)
+pub unchanged : {a : Call} {row-places col-places eta′ : List ℕ} → Judges a row-places col-places eta′ judgment.Singular → Answered a (outcome singular (a .lists) eta′)
 unchanged k = let t = told-singular k in (Singular, t .0, outcome-same refl refl (t .1))
 
 module _ {a : Call} (J : Judgeable a) (F : New-fits a) where
@@ -113,61 +112,47 @@ module _ {a : Call} (J : Judgeable a) (F : New-fits a) where
 
   -- ---- PERMUTED
 
-  module _ {p : ℕ → Bool} (O : Of-list p (a .new-rows)) where
-    -- There is room for what is stored.
-    pub spiked-room : Fits (start-of (exchanged m before (a .column) m p) m) (a .lists .col-rows) (a .lists .row-cols)
-    spiked-room = rw (call-spiked J O) (spiked-fits J F)
+  -- There is room for what is stored.
+  pub spiked-room : Fits (start-of (exchanged m before (a .column) m (a .new-rows)) m) (a .lists .col-rows) (a .lists .row-cols)
+  spiked-room = rw (call-spiked J) (spiked-fits J F)
 
-    module _ {cs cr : List ℕ} (H : Held (exchanged m before (a .column) m p) (a .lists .col-starts) (a .lists .col-rows) cs cr) where
-      rises : Columns m (spiked-columns (asked a))
-      rises = spiked-columns-rise (call-columns J) (J .column-below) (J .new-rise)
-
-      spiked-stored : Held (spiked-columns (asked a)) (a .lists .col-starts) (a .lists .col-rows) cs cr
-      spiked-stored = rw (call-spiked J O) at H
-
-      -- The stored listing may be read, and is the spiked pattern.
-      pub spiked-good : Good m cs cr
-      spiked-good = held-good (rises .size) (J .sound .long .columns-fit .starts-long) (spiked-fits J F .in-columns) spiked-stored rises (spiked-fits J F .few) (J .sound .sized .1)
-
-      spiked-parts : parts m cs cr ≡ spiked-columns (asked a)
-      spiked-parts = held-parts (rises .size) (J .sound .long .columns-fit .starts-long) (spiked-fits J F .in-columns) spiked-stored
-
-      pub changed-permuted : {rs rc or oc places eta′ : List ℕ}
-          → Held (turned m (exchanged m before (a .column) m p)) (a .lists .row-starts) (a .lists .row-cols) rs rc
-          → Permutes a places eta′
-          → ((order : List ℕ) → length order ≡ m → Placed m (at order) places → or ≡ over order (a .lists .order-rows))
-          → ((row : ℕ → ℕ) → (order : List ℕ) → length order ≡ m → Placed m row places → Sound (Entry (parts m cs cr)) m row (at order) → oc ≡ over order (a .lists .order-cols))
-          → Answered a (outcome permuted (lists cs cr rs rc or oc) eta′)
-      changed-permuted K k rows-laid cols-laid =
-          let R = k .right in
-          let S : Sound (Spike (asked a)) m (at (k .rows)) (at (k .cols)) = rw (call-size J) at (R .leading .sound) in
-          let T = rw (call-spiked J O) at K in (
-            Permuted (k .rows) (k .cols),
-            R,
-            outcome-same refl
-                (lists-same (spiked-stored .starts-after) (spiked-stored .entries-after) (T .starts-after) (T .entries-after)
-                (rows-laid (k .rows) (R .row-count ∙ call-size J) (k .placed))
-                (cols-laid (at (k .rows)) (k .cols) (R .col-count ∙ call-size J) (k .placed) (rw spiked-parts S)))
-                (k .eta-kept),
-          )
+  pub changed-permuted : {cs cr rs rc or oc row-places col-places eta′ : List ℕ}
+      → Held (exchanged m before (a .column) m (a .new-rows)) (a .lists .col-starts) (a .lists .col-rows) cs cr
+      → Held (turned m (exchanged m before (a .column) m (a .new-rows))) (a .lists .row-starts) (a .lists .row-cols) rs rc
+      → Permutes a row-places col-places eta′
+      → ((order : List ℕ) → length order ≡ m → Placed m (at order) row-places → or ≡ over order (a .lists .order-rows))
+      → ((order : List ℕ) → length order ≡ m → Placed m (at order) col-places → oc ≡ over order (a .lists .order-cols))
+      → Answered a (outcome permuted (lists cs cr rs rc or oc) eta′)
+  changed-permuted H K k rows-laid cols-laid =
+      let R = k .right in
+      let S = rw (call-spiked J) at H in
+      let T = rw (call-spiked J) at K in (
+        Permuted (k .rows) (k .cols),
+        R,
+        outcome-same refl
+            (lists-same (S .starts-after) (S .entries-after) (T .starts-after) (T .entries-after)
+            (rows-laid (k .rows) (R .row-count ∙ call-size J) (k .rows-placed)) (cols-laid (k .cols) (R .col-count ∙ call-size J) (k .cols-placed)))
+            (k .eta-kept),
+      )
 
   -- ---- ELIMINATION
 
-  module _ {p q : ℕ → Bool} {r b n : ℕ} {eta′ : List ℕ} (O : Of-list q (a .new-rows)) (W : With q p r) (er : r ≡ c-row (asked a)) (k : Eliminates a eta′ b n) where
-    pub cleared-room : Fits (start-of (exchanged m before (a .column) r p) m) (a .lists .col-rows) (a .lists .row-cols)
-    cleared-room = rw (call-cleared J O W er) (cleared-fits J F (k .right .not-singular))
+  -- The rows that are stored are the new ones with row r.
+  module _ {r b n : ℕ} {rows eta′ : List ℕ} (er : r ≡ c-row (asked a)) (el : rows ≡ joined m r (a .new-rows)) (k : Eliminates a eta′ b n) where
+    pub cleared-room : Fits (start-of (exchanged m before (a .column) r rows) m) (a .lists .col-rows) (a .lists .row-cols)
+    cleared-room = rw (call-cleared J er el) (cleared-fits J F (k .right .not-singular))
 
     pub changed-elimination : {cs cr rs rc or oc : List ℕ} {t : ℕ}
-        → Held (exchanged m before (a .column) r p) (a .lists .col-starts) (a .lists .col-rows) cs cr
-        → Held (turned m (exchanged m before (a .column) r p)) (a .lists .row-starts) (a .lists .row-cols) rs rc
+        → Held (exchanged m before (a .column) r rows) (a .lists .col-starts) (a .lists .col-rows) cs cr
+        → Held (turned m (exchanged m before (a .column) r rows)) (a .lists .row-starts) (a .lists .row-cols) rs rc
         → t ≡ place (at (a .lists .order-cols)) m (a .column)
         → or ≡ over (to-last t (take m (a .lists .order-rows))) (a .lists .order-rows)
         → oc ≡ over (to-last t (take m (a .lists .order-cols))) (a .lists .order-cols)
         → Answered a (outcome (elimination b n) (lists cs cr rs rc or oc) eta′)
     changed-elimination {t = t} H K et rows-moved cols-moved =
         let R = k .right in
-        let S = rw (call-cleared J O W er) at H in
-        let T = rw (call-cleared J O W er) at K in
+        let S = rw (call-cleared J er el) at H in
+        let T = rw (call-cleared J er el) at K in
         let e : t ≡ c-place (asked a) = et ∙ sym (call-place J) in (
           Elimination (k .rows) (k .cols) b (k .eta),
           R,

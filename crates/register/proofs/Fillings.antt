@@ -32,7 +32,7 @@ module _ {m : ℕ} {starts entries : List ℕ} (G : Good m starts entries) where
   start-fits k h = omega (arith, starts-rise (G .formed .starts-right) k m h (omega arith), G .room .entries-long)
 
   -- The first parts are what stands before the next one's start.
-  parts-flat : (k : ℕ) → k ≤ m → flat (each (part starts entries) k) ≡ take (at starts k) entries
+  pub parts-flat : (k : ℕ) → k ≤ m → flat (each (part starts entries) k) ≡ take (at starts k) entries
   parts-flat zero h = ap (λ (n : ℕ). take n entries) (sym (G .formed .starts-right .first))
   parts-flat (suc k) h =
       ap (λ (n : ℕ). flat (each (part starts entries) n)) (sym (add-one k))

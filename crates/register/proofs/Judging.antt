@@ -1,11 +1,10 @@
--- The three verdicts from what the peel and the sweep find. Rests on specs/Judge.antt, Spikes.antt, Numbered.antt and
+-- The three verdicts from what the sweep and the peel find. Rests on specs/Judge.antt, Spikes.antt, Numbered.antt and
 -- `pattern`.
 use mathlib.Core.Bool.{Bool}
 use mathlib.Core.List.{List}
-use mathlib.Core.Logic.{_↔_}
-use mathlib.Core.Path.{_≡_, refl, sym, ap, _∙_, subst}
+use mathlib.Core.Logic.{_≢_, _↔_}
+use mathlib.Core.Path.{_≡_, refl, sym, ap, ap₂, _∙_, subst}
 use Prim.Native.Nat.{ℕ, _+_, _-_, _≤_, _<_}
-use native.Mathlib.Decide.{decLt}
 use native.Mathlib.Omega.{arith}
 use lib.Dec.{T}
 use lib.ListN.{length}
@@ -15,8 +14,8 @@ use Rattle.pattern.specs.Order.{Sound, Triangular, Paired}
 use Rattle.pattern.specs.Pattern.{has}
 use Rattle.pattern.specs.Peel.{Whole}
 use Rattle.pattern.specs.Places.{at, Same, place}
-use Rattle.pattern.specs.Series.{numbers}
 use Rattle.pattern.specs.Reach.{Reach}
+use Rattle.pattern.specs.Series.{greatest, numbers}
 use Rattle.pattern.specs.Verdict.{size, row-at, col-at, old-place, c-place, Old, spiked-columns, Spike, Taken, Permuted, Singular, Elimination, to-last, top-place, Eta, Is-elimination}
 use Rattle.pattern.proofs.Computed.{whole-judged}
 use Rattle.pattern.proofs.Finding.{place-at, place-of}
@@ -28,20 +27,22 @@ use Rattle.pattern.proofs.Pairing.{sound-as}
 use Rattle.pattern.proofs.Reaching.{reach-same}
 use Rattle.pattern.proofs.Rises.{rising-below}
 use Rattle.pattern.proofs.SomeChoice.{reached-choice}
-use Rattle.pattern.proofs.Verdicts.{old-sound, spiked, bump-true}
+use Rattle.pattern.proofs.TwoChoices.{two-reached}
+use Rattle.pattern.proofs.Verdicts.{old-sound, spiked, spike-rows, bump-true}
 use Rattle.register.specs.Checks.{Call}
+use Rattle.register.specs.Judge.{Judgeable, Judges, Bump-and-eta}
 use Rattle.register.specs.Held.{over}
-use Rattle.register.specs.Judge.{Judgeable, Judges}
 use Rattle.register.specs.Lent.{rows}
-use Rattle.register.specs.Limits.{max-mark}
+use Rattle.register.specs.Order.{Placed}
 use Rattle.register.specs.Peel.{Peeled}
-use Rattle.register.specs.Reach.{By-rows, Reached, Rows-at}
+use Rattle.register.specs.Reach.{By-rows, Reached, stands-at}
 use Rattle.register.specs.Replace.{asked}
-use Rattle.register.specs.Sets.{Of-list}
+use Rattle.register.specs.declared.Judgment.{Judgment}
 use Rattle.register.specs.declared.Judgment.the-variants as judgment
 use Rattle.register.proofs.Calls.{call-size, call-judged}
 use Rattle.register.proofs.Spikes.{call-place}
-use Rattle.register.proofs.Numbered.{below-numbers}
+use Rattle.register.proofs.Numbered.{stands-only, only-stands, standing-same}
+use Rattle.register.proofs.Orders.{top-is}
 
 module _ {a : Call} (J : Judgeable a) where
   abbrev m : ℕ
@@ -86,129 +87,139 @@ module _ {a : Call} (J : Judgeable a) where
 
   -- ---- PERMUTED
 
-  pub judged-permuted : {places : List ℕ} → Peeled m (spiked-columns (asked a)) col places → Judges a places (a .eta) judgment.Permuted
+  pub judged-permuted : {row-places col-places : List ℕ} → Peeled m (spiked-columns (asked a)) col row-places col-places
+      → Judges a row-places col-places (a .eta) judgment.Permuted
   judged-permuted k =
       record {
         verdict = Permuted (k .rows) (k .cols);
         right = whole-judged (asked a) t (subst (λ (n : ℕ). Whole (Spike (asked a)) n (old-place (asked a)) (k .rows) (k .cols)) (sym (call-size J)) (whole-keys old-places (k .whole)));
-        tells = (refl, refl, k .placed);
+        tells = (refl, refl, k .rows-placed, k .cols-placed);
       }
 
   -- ---- SINGULAR and ELIMINATION
 
-  module _ {p q : ℕ → Bool} (R : Reached (By-rows (rows m (a .lists))) m row col (a .column) p) (O : Of-list q (a .new-rows)) where
+  abbrev Reached-column : ℕ → Type 0
+  Reached-column = Reach (Old (asked a)) (size (asked a)) (row-at (asked a)) (col-at (asked a)) (a .column)
+
+  abbrev Pair : ℕ → ℕ → Type 0
+  Pair = Paired (size (asked a)) (row-at (asked a)) (col-at (asked a))
+
+  -- A pair stands at the place of its row.
+  pair-place : (x y : ℕ) (d : Pair x y) → (d .0 < m) × (place row m x ≡ d .0)
+  pair-place x y d =
+      let b : d .0 < m = omega (arith, d .1, call-size J) in
+      (b, ap (place row m) (sym (same-rows (d .0) b ∙ d .2)) ∙ place-at (J .sound .order .rows) (d .0) b)
+
+  module _ {p : ℕ → Bool} (R : Reached (By-rows (rows m (a .lists))) m row col (a .column) p) where
     -- The marked places are those of Reach(c) in the old pattern.
-    reach-at : (s : ℕ) → s < m → T (p s) ↔ Reach (Old (asked a)) (size (asked a)) (row-at (asked a)) (col-at (asked a)) (a .column) (col s)
+    reach-at : (s : ℕ) → s < m → T (p s) ↔ Reached-column (col s)
     reach-at s h = (
       λ u. reach-same (λ r y e. J .sound .agree r y .1 e) (sym (call-size J)) same-rows same-cols (R .are s h .0 u),
       λ k. R .are s h .1
           (reach-same (λ r y e. J .sound .agree r y .0 e) (call-size J) (λ i b. sym (same-rows i (omega (arith, call-size J)))) (λ i b. sym (same-cols i (omega (arith, call-size J)))) k),
     )
 
-    -- A marked place is one, and its row can be marked.
-    pub place-low : (s : ℕ) → s < max-mark → T (p s) → s < m
-    place-low s h u = go (decLt s m)
-      where
-        go : Dec (s < m) → s < m
-        go (yes b) = b
-        go (no n) = absurd (subst T (R .below s (omega arith) h) u)
+    -- A row at a marked place is the pair of a reached column, and the other way round.
+    at-reached : (x : ℕ) → x < m → T (p (place row m x)) → (y : ℕ) × Reached-column y × Pair x y
+    at-reached x h u =
+        let q = place-of (J .sound .order .rows) x h in
+        let s : ℕ = place row m x in
+        (col-at (asked a) s, subst Reached-column (same-cols s (q .0)) (reach-at s (q .0) .0 u), (s, omega (arith, q .0, call-size J), sym (same-rows s (q .0)) ∙ q .1, refl))
 
-    -- A new row stands at a marked place.
-    abbrev Meets : Type 0
-    Meets = (s : ℕ) × (s < max-mark) × T (p s) × T (q (row s))
-
-    -- So is the row of a pair of Reach(c).
-    met-pair : (x r : ℕ) → Reach (Old (asked a)) (size (asked a)) (row-at (asked a)) (col-at (asked a)) (a .column) x
-        → Paired (size (asked a)) (row-at (asked a)) (col-at (asked a)) r x → T (has (a .new-rows) r) → Meets
-    met-pair x r k d n =
+    reached-at : (y x : ℕ) → Reached-column y → Pair x y → (x < m) × T (p (place row m x))
+    reached-at y x k d =
         let s : ℕ = d .0 in
-        let b : s < m = omega (arith, d .1, call-size J) in
-        let e : x ≡ col s = sym (d .3) ∙ sym (same-cols s b) in
-        let z : row s ≡ r = same-rows s b ∙ d .2 in
-        let low : row s < max-mark = omega (arith, J .sound .order .rows .below s b, J .sound .sized) in (
-          s,
-          omega (arith, J .sound .sized),
-          reach-at s b .1 (subst (Reach (Old (asked a)) (size (asked a)) (row-at (asked a)) (col-at (asked a)) (a .column)) e k),
-          subst T (sym (O (row s) low ∙ ap (has (a .new-rows)) z)) n,
+        let w = pair-place x y d in (
+          omega (arith, J .sound .order .rows .below s (w .0), same-rows s (w .0), d .2),
+          subst (λ (i : ℕ). T (p i)) (sym (w .1)) (reach-at s (w .0) .1 (subst Reached-column (sym (d .3) ∙ sym (same-cols s (w .0))) k)),
         )
 
-    pub judged-singular : {places : List ℕ} → ¬ Meets → Judges a places (a .eta) judgment.Singular
-    judged-singular apart =
+    -- A new row at a marked place.
+    abbrev pub Met : ℕ → Type 0
+    Met x = T (has (a .new-rows) x) × T (p (place row m x))
+
+    met-paired : (x : ℕ) → Met x → (y : ℕ) × Reached-column y × Pair x y
+    met-paired x μ = at-reached x (rising-below (J .new-rise) x (μ .0)) (μ .1)
+
+    pub judged-singular : {row-places col-places : List ℕ} → ((x : ℕ) → ¬ Met x) → Judges a row-places col-places (a .eta) judgment.Singular
+    judged-singular none =
         record {
           verdict = Singular;
-          right = unreached-no-choice (old-sound (asked a) t) (spiked (asked a) t) (t .column-below) (λ x r k d n. apart (met-pair x r k d n));
+          right = unreached-no-choice (old-sound (asked a) t) (spiked (asked a) t) (t .column-below) (λ y x k d n. none x (n, reached-at y x k d .1));
           tells = (refl, refl);
         }
 
-    module _ (μ : Meets) where
+    -- Two of them: no order is sound.
+    pub two-met : (x z : ℕ) → x ≢ z → Met x → Met z → ¬ Triangular (Spike (asked a)) m
+    two-met x z n μ ν =
+        let k = met-paired x μ in
+        let l = met-paired z ν in
+        subst (λ (n : ℕ). ¬ Triangular (Spike (asked a)) n) (call-size J)
+        (two-reached (old-sound (asked a) t) (spiked (asked a) t) (spike-rows (asked a) t) (t .column-below) (k .0) x (k .1) (k .2) (μ .0) (l .0) z (l .1) (l .2) (ν .0) n)
+
+    module _ {c-at : ℕ} (x : ℕ) (μ : Met x) (none : ¬ Triangular (Spike (asked a)) m) (at-c : c-at ≡ place col m (a .column)) where
       -- A full choice is left.
       some-choice : ¬ No-choice (Spike (asked a)) (size (asked a))
-      some-choice none =
-          let s : ℕ = μ .0 in
-          let b = place-low s (μ .1) (μ .2) in
-          let k = reached-choice (old-sound (asked a) t) (spiked (asked a) t) (t .column-below) (col-at (asked a) s) (row-at (asked a) s)
-          (subst (Reach (Old (asked a)) (size (asked a)) (row-at (asked a)) (col-at (asked a)) (a .column)) (same-cols s b) (reach-at s b .0 (μ .2)))
-          (s, omega (arith, call-size J), refl, refl)
-          (subst T (O (row s) (omega (arith, J .sound .order .rows .below s b, J .sound .sized)) ∙ ap (has (a .new-rows)) (same-rows s b)) (μ .3)) in
-          none (k .0) (k .1)
+      some-choice none-left =
+          let k = met-paired x μ in
+          let f = reached-choice (old-sound (asked a) t) (spiked (asked a) t) (t .column-below) (k .0) x (k .1) (k .2) (μ .0) in
+          none-left (f .0) (f .1)
 
-      module _ {w : ℕ → Bool} {c-at : ℕ} (none : ¬ Triangular (Spike (asked a)) m) (at-c : c-at ≡ place col m (a .column)) (W : Rows-at m row c-at p w) where
-        eta-are : (r : ℕ) → T (has (numbers w m) r) ↔ Eta (asked a) r
-        eta-are r = (λ h. there (numbers-are w m r .0 h), λ e. numbers-are w m r .1 (back e))
-          where
-            c-there : col c-at ≡ a .column
-            c-there = ap col at-c ∙ place-of (J .sound .order .cols) (a .column) (J .column-below) .1
+      abbrev eta-rows : List ℕ
+      eta-rows = numbers (stands-at p (place row m) c-at) m
 
-            there : (r < m) × T (w r) → Eta (asked a) r
-            there u =
-                let k = W .are r (u .0) .0 (u .1) in
-                let s : ℕ = k .0 in
-                let b : s < m = k .1 in (
-                  col-at (asked a) s,
-                  subst (Reach (Old (asked a)) (size (asked a)) (row-at (asked a)) (col-at (asked a)) (a .column)) (same-cols s b) (reach-at s b .0 (k .3)),
-                  λ z. k .2 (sym (place-at (J .sound .order .cols) s b) ∙ ap (place col m) (same-cols s b ∙ z) ∙ sym at-c),
-                  (s, omega (arith, call-size J), sym (same-rows s b) ∙ k .4, refl),
-                )
+      eta-are : (r : ℕ) → T (has eta-rows r) ↔ Eta (asked a) r
+      eta-are r = (λ h. let u = numbers-are (stands-at p (place row m) c-at) m r .0 h in there (u .0) (stands-only p (place row m) c-at r (u .1)), back)
+        where
+          c-there : col c-at ≡ a .column
+          c-there = ap col at-c ∙ place-of (J .sound .order .cols) (a .column) (J .column-below) .1
 
-            back : Eta (asked a) r → (r < m) × T (w r)
-            back e =
-                let s : ℕ = e .3 .0 in
-                let b : s < m = omega (arith, e .3 .1, call-size J) in
-                let z : row s ≡ r = same-rows s b ∙ e .3 .2 in
-                let x : col s ≡ e .0 = same-cols s b ∙ e .3 .3 in
-                let h : r < m = omega (arith, J .sound .order .rows .below s b) in
-                (h, W .are r h .1 (s, b, (λ y. e .2 (sym x ∙ ap col y ∙ c-there)), reach-at s b .1 (subst (Reach (Old (asked a)) (size (asked a)) (row-at (asked a)) (col-at (asked a)) (a .column)) (sym x) (e .1)), z))
+          -- The pair of `r` and `y` is not that of `c` where the place of `r` is not `c`'s.
+          apart : (y : ℕ) → Pair r y → place row m r ≢ c-at → y ≢ a .column
+          apart y d n z =
+              let w = pair-place r y d in
+              n (w .1 ∙ sym (place-at (J .sound .order .cols) (d .0) (w .0)) ∙ ap (place col m) (same-cols (d .0) (w .0) ∙ d .3 ∙ z) ∙ sym at-c)
 
-        abbrev bump-of : ℕ
-        bump-of = top-place (row-at (asked a)) (size (asked a)) (a .new-rows) - c-place (asked a) + 1
+          there : r < m → T (p (place row m r)) × (place row m r ≢ c-at) → Eta (asked a) r
+          there h u = let k = at-reached r h (u .0) in (k .0, k .1, apart (k .0) (k .2) (u .1), k .2)
 
-        eliminated : Is-elimination (asked a) (to-last (c-place (asked a)) (asked a .order-rows)) (to-last (c-place (asked a)) (asked a .order-cols)) bump-of (numbers w m)
-        eliminated =
-            record {
-              not-singular = some-choice;
-              not-permuted = rw (call-size J) none;
-              rows-after = refl;
-              cols-after = refl;
-              bump-is = refl;
-              eta-rises = rw (call-size J) (numbers-rise w m);
-              eta-are = eta-are;
-            }
+          back : Eta (asked a) r → T (has eta-rows r)
+          back e =
+              let k = reached-at (e .0) r (e .1) (e .3) in
+              let w = pair-place r (e .0) (e .3) in
+              numbers-are (stands-at p (place row m) c-at) m r .1
+              (k .0, only-stands p (place row m) c-at r (k .1) (λ z. e .2 (sym (e .3 .3) ∙ sym (same-cols (e .3 .0) (w .0)) ∙ ap col (sym (w .1) ∙ z) ∙ c-there)))
 
-        -- The bump's difference is a true one.
-        pub c-before-top : c-at ≤ top-place row m (a .new-rows)
-        c-before-top = omega (arith, bump-true (asked a) t eliminated, top-same, call-place J)
+      abbrev bump-of : ℕ
+      bump-of = top-place (row-at (asked a)) (size (asked a)) (a .new-rows) - c-place (asked a) + 1
 
-        pub judged-elimination : {places : List ℕ} (b n : ℕ) (eta′ : List ℕ) → b ≡ top-place row m (a .new-rows) - c-at + 1
-            → n ≡ length (numbers w max-mark) → eta′ ≡ over (numbers w max-mark) (a .eta) → Judges a places eta′ (judgment.Elimination b n)
-        judged-elimination b n eta′ eb en ee =
-            record {
-              verdict = Elimination (to-last (c-place (asked a)) (asked a .order-rows)) (to-last (c-place (asked a)) (asked a .order-cols)) bump-of (numbers w m);
-              right = eliminated;
-              tells = (cc (same-bump, en ∙ ap length few), ee ∙ ap (λ (l : List ℕ). over l (a .eta)) few);
-            }
-          where
-            same-bump : b ≡ bump-of
-            same-bump = omega (arith, eb, top-same, call-place J)
+      eliminated : Is-elimination (asked a) (to-last (c-place (asked a)) (asked a .order-rows)) (to-last (c-place (asked a)) (asked a .order-cols)) bump-of eta-rows
+      eliminated =
+          record {
+            not-singular = some-choice;
+            not-permuted = rw (call-size J) none;
+            rows-after = refl;
+            cols-after = refl;
+            bump-is = refl;
+            eta-rises = rw (call-size J) (numbers-rise (stands-at p (place row m) c-at) m);
+            eta-are = eta-are;
+          }
 
-            few : numbers w max-mark ≡ numbers w m
-            few = below-numbers (W .below) (omega (arith, J .sound .sized))
+      -- The bump's difference is a true one.
+      pub c-before-top : {places : List ℕ} → Placed m row places → c-at ≤ greatest (at places) (a .new-rows)
+      c-before-top L = omega (arith, bump-true (asked a) t eliminated, top-is L (J .new-rise), top-same, call-place J)
+
+      pub judged-elimination : {row-places col-places places eta′ : List ℕ} {j : Judgment} → Placed m row places → Bump-and-eta m places (a .new-rows) c-at p (a .eta) j eta′
+          → Judges a row-places col-places eta′ j
+      judged-elimination {places = places} L k =
+          record {
+            verdict = Elimination (to-last (c-place (asked a)) (asked a .order-rows)) (to-last (c-place (asked a)) (asked a .order-cols)) bump-of eta-rows;
+            right = eliminated;
+            tells = (k .told ∙ ap₂ judgment.Elimination same-bump (ap length same-rows-told), k .written ∙ ap (λ (l : List ℕ). over l (a .eta)) same-rows-told);
+          }
+        where
+          same-rows-told : numbers (stands-at p (at places) c-at) m ≡ eta-rows
+          same-rows-told = standing-same p c-at L
+
+          same-bump : greatest (at places) (a .new-rows) - c-at + 1 ≡ bump-of
+          same-bump = omega (arith, top-is L (J .new-rise), top-same, call-place J)

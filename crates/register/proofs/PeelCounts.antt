@@ -3,84 +3,73 @@
 use mathlib.Core.List.{List}
 use mathlib.Core.Logic.{_≢_, _⊎_, inl, inr, ⊎-elim}
 use mathlib.Core.Path.{_≡_, refl, sym, ap, _∙_, subst}
-use Prim.Native.Nat.{ℕ, zero, suc, _+_, _-_, _<_}
-use native.Mathlib.Decide.{ℕ-discrete, decLt}
+use Prim.Native.Nat.{ℕ, _+_, _-_, _≤_, _<_}
+use native.Mathlib.Decide.{ℕ-discrete, decLe, decLt}
 use native.Mathlib.Omega.{arith}
-use lib.Dec.{T, eqb, eqb→eq}
+use lib.Dec.{T, leb, leb→le, le→leb}
 use lib.ListN.{length, set, length-set}
 use lib.Seq.{getD-set-same, getD-set-other}
 use Rattle.pattern.specs.Pattern.{has}
 use Rattle.pattern.specs.Places.{at}
 use Rattle.pattern.specs.Rising.{Rising}
-use Rattle.pattern.specs.Series.{tally}
 use Rattle.pattern.proofs.Search.{None, Found, find, last-or}
 use Rattle.pattern.proofs.Tallies.{tally-next, tally-more, tally-zero, tally-same, tally-one}
-use Rattle.pattern.proofs.Tests.{T-true, T-false, eq-eqb, has-among, among-has}
+use Rattle.pattern.proofs.Tests.{T-true, T-false, has-among, among-has}
 use Rattle.register.specs.Limits.{max-size}
 use Rattle.register.specs.Peel.{unplaced, No-one, Next-one, Strikes, Struck}
 use Rattle.register.specs.Sets.{one}
 use Rattle.register.proofs.Rises.{rising-once}
-
--- ---- Sums of ones
-
-tally-ones : (f : ℕ → ℕ) (n : ℕ) → ((i : ℕ) → i < n → f i ≡ 1) → tally f n ≡ n
-unfolding tally
-tally-ones f zero z = refl
-tally-ones f (suc n) z = omega (arith, z n (omega arith), tally-ones f n (λ i h. z i (omega arith)))
 
 -- ---- Numbers that have no place
 
 module _ (places : List ℕ) where
   -- What a number counts for.
   abbrev counts-for : ℕ → ℕ
-  counts-for x = one (eqb (at places x) max-size)
+  counts-for x = one (leb max-size (at places x))
 
-  for-one : (x : ℕ) → at places x ≡ max-size → counts-for x ≡ 1
-  for-one x e = ap one (T-true (eqb (at places x) max-size) (eq-eqb (at places x) max-size e))
+  for-one : (x : ℕ) → max-size ≤ at places x → counts-for x ≡ 1
+  for-one x e = ap one (T-true (leb max-size (at places x)) (le→leb max-size (at places x) e))
 
-  for-none : (x : ℕ) → at places x ≢ max-size → counts-for x ≡ 0
-  for-none x n = ap one (T-false (eqb (at places x) max-size) (λ t. n (eqb→eq (at places x) max-size t)))
+  for-none : (x : ℕ) → at places x < max-size → counts-for x ≡ 0
+  for-none x n = ap one (T-false (leb max-size (at places x)) (λ t. omega (arith, leb→le max-size (at places x) t)))
 
   module _ (l : List ℕ) where
-    pub unplaced-none : ((k : ℕ) → k < length l → at places (at l k) ≢ max-size) → unplaced places l ≡ 0
+    pub unplaced-none : ((k : ℕ) → k < length l → at places (at l k) < max-size) → unplaced places l ≡ 0
     unplaced-none h = tally-zero (λ k. counts-for (at l k)) (length l) (λ k u. for-none (at l k) (h k u))
 
-    pub unplaced-all : ((k : ℕ) → k < length l → at places (at l k) ≡ max-size) → unplaced places l ≡ length l
-    unplaced-all h = tally-ones (λ k. counts-for (at l k)) (length l) (λ k u. for-one (at l k) (h k u))
-
-    pub unplaced-some : (x : ℕ) → T (has l x) → at places x ≡ max-size → 0 < unplaced places l
+    pub unplaced-some : (x : ℕ) → T (has l x) → max-size ≤ at places x → 0 < unplaced places l
     unplaced-some x t e =
         let a = has-among l x t in
         omega (
           arith,
           tally-next (λ k. counts-for (at l k)) (a .0),
           tally-more (λ k. counts-for (at l k)) (a .0 + 1) (length l) (omega (arith, a .1)),
-          for-one (at l (a .0)) (ap (at places) (a .2) ∙ e),
+          for-one (at l (a .0)) (omega (arith, ap (at places) (a .2), e)),
         )
 
     -- Where the count is not 0, some number has no place.
-    pub some-unplaced : 0 < unplaced places l → (k : ℕ) × (k < length l) × (at places (at l k) ≡ max-size)
-    some-unplaced h = go (find (λ k. at places (at l k) ≡ max-size) (λ k. ℕ-discrete (at places (at l k)) max-size) (length l))
+    pub some-unplaced : 0 < unplaced places l → (k : ℕ) × (k < length l) × (max-size ≤ at places (at l k))
+    some-unplaced h = go (find (λ k. max-size ≤ at places (at l k)) (λ k. decLe max-size (at places (at l k))) (length l))
       where
-        go : Found (λ k. at places (at l k) ≡ max-size) (length l) ⊎ None (λ k. at places (at l k) ≡ max-size) (length l)
-            → (k : ℕ) × (k < length l) × (at places (at l k) ≡ max-size)
+        go : Found (λ k. max-size ≤ at places (at l k)) (length l) ⊎ None (λ k. max-size ≤ at places (at l k)) (length l)
+            → (k : ℕ) × (k < length l) × (max-size ≤ at places (at l k))
         go (inl f) = (f .number, f .in-range, f .is-so)
-        go (inr n) = absurd (omega (arith, unplaced-none n))
+        go (inr n) = absurd (omega (arith, unplaced-none (λ k u. omega (arith, n k u))))
 
 -- One of them gets the place `n`.
-module _ (places : List ℕ) (x n : ℕ) (h : x < length places) (e : at places x ≡ max-size) (b : n < max-size) where
+module _ (places : List ℕ) (x n : ℕ) (h : x < length places) (e : max-size ≤ at places x) (b : n < max-size) where
   pub unplaced-less : {m : ℕ} (l : List ℕ) → Rising m l → T (has l x) → unplaced places l ≡ unplaced (set places x n) l + 1
   unplaced-less l R t =
       let a = has-among l x t in
       let z : at (set places x n) (at l (a .0)) ≡ n = ap (at (set places x n)) (a .2) ∙ getD-set-same places x n 0 h in
       tally-one (λ k. counts-for (set places x n) (at l k)) (λ k. counts-for places (at l k)) (length l) (a .0) (a .1)
-      (omega (arith, for-one places (at l (a .0)) (ap (at places) (a .2) ∙ e), for-none (set places x n) (at l (a .0)) (λ w. omega arith)))
-      (λ k u d. ap (λ (p : ℕ). one (eqb p max-size)) (sym (getD-set-other places x (at l k) n 0 (λ w. d (rising-once R .once k (a .0) u (a .1) (w ∙ sym (a .2)))))))
+      (omega (arith, for-one places (at l (a .0)) (omega (arith, ap (at places) (a .2), e)), for-none (set places x n) (at l (a .0)) (omega arith)))
+      (λ k u d. ap (λ (p : ℕ). one (leb max-size p)) (sym (getD-set-other places x (at l k) n 0 (λ w. d (rising-once R .once k (a .0) u (a .1) (w ∙ sym (a .2)))))))
 
   pub unplaced-same : (l : List ℕ) → ¬ T (has l x) → unplaced places l ≡ unplaced (set places x n) l
   unplaced-same l t =
       tally-same (λ k. counts-for places (at l k)) (λ k. counts-for (set places x n) (at l k)) (length l)
-      (λ k u. ap (λ (p : ℕ). one (eqb p max-size)) (sym (getD-set-other places x (at l k) n 0 (λ w. t (subst (λ (y : ℕ). T (has l y)) w (among-has l k u))))))
+      (λ k u. ap (λ (p : ℕ). one (leb max-size p)) (sym (getD-set-other places x (at l k) n 0 (λ w. t (subst (λ (y : ℕ). T (has l y)) w (among-has l k u))))))
 
 -- ---- Counts that are lowered
 
@@ -107,7 +96,7 @@ module _ {cols : List ℕ} {c : ℕ} {old counts : List ℕ} (S : Strikes cols c
   module _ {k : ℕ} {counts′ : List ℕ} (h : k < length cols) (K : Struck cols c old counts k counts′) where
     -- The count of the next column is still what it was.
     next-same : at cols k ≢ c → at counts′ (at old (at cols k)) ≡ at counts (at old (at cols k))
-    next-same n = K .others (at old (at cols k)) (λ i u d e. omega (arith, S .apart .once i k (omega arith) h e))
+    next-same n = K .others (at old (at cols k)) (λ i u d e. omega (arith, S .apart i k (omega arith) h d n e))
 
     pub next-some : at cols k ≢ c → 0 < at counts′ (at old (at cols k))
     next-some n = omega (arith, next-same n, S .some k h n)
@@ -134,12 +123,12 @@ module _ {cols : List ℕ} {c : ℕ} {old counts : List ℕ} (S : Strikes cols c
         before i b d =
             K .less i b d
             ∙ ap (λ (w : ℕ). w + 1)
-            (sym (getD-set-other counts′ p (at old (at cols i)) v 0 (λ z. omega (arith, S .apart .once i k (omega arith) h (z ∙ ep)))))
+            (sym (getD-set-other counts′ p (at old (at cols i)) v 0 (λ z. omega (arith, S .apart i k (omega arith) h d n (z ∙ ep)))))
 
         here : (i : ℕ) → i ≡ k → at counts (at old (at cols i)) ≡ at (set counts′ p v) (at old (at cols i)) + 1
         here i z =
             let q : at old (at cols i) ≡ p = ap (λ (j : ℕ). at old (at cols j)) z ∙ sym ep in
-            let b : p < length counts′ = omega (arith, K .long, S .apart .below k h) in
+            let b : p < length counts′ = omega (arith, K .long, S .inside k h n) in
             omega (
               arith,
               ap (at counts) (q ∙ ep),

@@ -1,9 +1,9 @@
 -- What `store` makes of a listing is what a verdict wants: the spiked columns, or the cleared ones; and that there is room for
 -- these. Rests on Without.antt, Listings.antt, Soundness.antt and `pattern`.
-use mathlib.Core.Bool.{Bool, cond}
+use mathlib.Core.Bool.{Bool, cond, _||_}
 use mathlib.Core.List.{List, []}
 use mathlib.Core.Logic.{_≢_}
-use mathlib.Core.Path.{_≡_, sym, ap, _∙_, subst}
+use mathlib.Core.Path.{_≡_, sym, ap, ap₂, _∙_, subst}
 use Prim.Native.Nat.{ℕ, _+_, _≤_, _<_}
 use native.Mathlib.Decide.{ℕ-discrete}
 use native.Mathlib.Omega.{arith}
@@ -14,19 +14,9 @@ use Rattle.pattern.specs.Choice.{No-choice}
 use Rattle.pattern.specs.Flat.{start-of}
 use Rattle.pattern.specs.Pattern.{has, column}
 use Rattle.pattern.specs.Places.{at, place}
-use Rattle.pattern.specs.Rising.{Rising}
 use Rattle.pattern.specs.Series.{each, numbers}
 use Rattle.pattern.specs.Verdict.{Replacement, size, col-at, c-place, c-row, spiked-columns, Spike, cleared-columns, Taken}
-use Rattle.pattern.proofs.Clearing.{
-  new-column,
-  old-column,
-  spiked-total,
-  stays,
-  stays-own,
-  stays-other,
-  c-row-below,
-  cleared-few,
-}
+use Rattle.pattern.proofs.Clearing.{new-column, old-column, spiked-total, stays, stays-own, stays-other, cleared-few}
 use Rattle.pattern.proofs.Each.{each-same, each-is}
 use Rattle.pattern.proofs.Finding.{place-at}
 use Rattle.pattern.proofs.Numbers.{numbers-rise, numbers-are, numbers-same}
@@ -38,98 +28,78 @@ use Rattle.pattern.proofs.Verdicts.{old-sound}
 use Rattle.register.specs.Checks.{Call, new-total, Fits, New-fits}
 use Rattle.register.specs.Judge.{Judgeable}
 use Rattle.register.specs.Lent.{columns}
-use Rattle.register.specs.Limits.{max-size, max-mark}
 use Rattle.register.specs.Replace.{asked}
-use Rattle.register.specs.Sets.{With, Of-list, Only-below}
-use Rattle.register.specs.Store.{without, exchanged}
+use Rattle.register.specs.Store.{without, joined, exchanged}
 use Rattle.register.proofs.Between.{between-length}
 use Rattle.register.proofs.Listings.{starts-rise, part-is, good-within, parts-start}
 use Rattle.register.proofs.Calls.{call-columns, call-size, call-judged}
 use Rattle.register.proofs.Soundness.{columns-good}
 use Rattle.register.proofs.Without.{without-has, has-without, without-none, without-rises}
 
--- ---- The set of the new rows
-
-module _ {m : ℕ} {p : ℕ → Bool} {new : List ℕ} (R : Rising m new) (O : Of-list p new) where
-  pub of-list-below : Only-below p m
-  of-list-below k h b = O k b ∙ T-false (has new k) (λ t. omega (arith, rising-below R k t))
-
-  pub of-list-numbers : m ≤ max-mark → numbers p m ≡ new
-  of-list-numbers small =
-      rising-same (numbers p m) new (numbers-rise p m) R
-      (λ k t. let u = numbers-are p m k .0 t in subst T (O k (omega (arith, u .0))) (u .1))
-      (λ k t. let h = rising-below R k t in numbers-are p m k .1 (h, subst T (sym (O k (omega arith))) t))
-
--- With a row below `m` too.
-pub with-below : {m i : ℕ} {p q : ℕ → Bool} → Only-below q m → i < m → With q p i → Only-below p m
-with-below B h W k u b = W .others k b (λ e. omega arith) ∙ B k u b
-
 -- ---- The spiked columns: no row is struck out
 
 -- Row `m` stands in no column.
-pub exchanged-spiked : {m c : ℕ} {P : List (List ℕ)} {new : List ℕ} {p : ℕ → Bool} → Columns m P → m ≤ max-size → c < m → Rising m new → Of-list p new
-    → exchanged m P c m p ≡ set P c new
-exchanged-spiked {m} {c} {P} {new} {p} C small h R O =
-    each-same (λ k. cond (eqb k c) (numbers p m) (without m (column P k))) (column (set P c new)) m (λ k u. go k (ℕ-discrete k c))
+exchanged-spiked : {m c : ℕ} {P : List (List ℕ)} (new : List ℕ) → Columns m P → c < m → exchanged m P c m new ≡ set P c new
+exchanged-spiked {m} {c} {P} new C h =
+    each-same (λ k. cond (eqb k c) new (without m (column P k))) (column (set P c new)) m (λ k u. go k (ℕ-discrete k c))
     ∙ ap (each (column (set P c new))) (sym (length-set P c new ∙ C .size))
     ∙ each-is (set P c new) []
   where
-    go : (k : ℕ) → Dec (k ≡ c) → cond (eqb k c) (numbers p m) (without m (column P k)) ≡ column (set P c new) k
+    go : (k : ℕ) → Dec (k ≡ c) → cond (eqb k c) new (without m (column P k)) ≡ column (set P c new) k
     go k (yes e) =
-        choose-same k c (numbers p m) (without m (column P k)) e
-        ∙ of-list-numbers R O (omega arith)
+        choose-same k c new (without m (column P k)) e
         ∙ sym (ap (column (set P c new)) e ∙ new-column P c new (omega (arith, C .size)))
     go k (no n) =
-        choose-other k c (numbers p m) (without m (column P k)) n
+        choose-other k c new (without m (column P k)) n
         ∙ without-none m (column P k) (λ t. omega (arith, row-below C m k t))
         ∙ sym (old-column P c new k n)
 
 -- ---- The cleared columns: row r is struck out, and column c is given it
 
-module _ {a : Replacement} {p q : ℕ → Bool} (t : Taken a) (O : Of-list q (a .new-rows)) (W : With q p (c-row a)) where
-  pub cleared-below : Only-below p (size a)
-  cleared-below = with-below (of-list-below (t .new-rise) O) (c-row-below a t) W
+module _ {a : Replacement} (t : Taken a) (C : Columns (size a) (a .columns)) where
+  -- Column c.
+  cleared-new : (k : ℕ) → k ≡ a .replaced → joined (size a) (c-row a) (a .new-rows) ≡ numbers (stays a k) (size a)
+  cleared-new k e = numbers-same (λ s. eqb s (c-row a) || has (a .new-rows) s) (stays a k) (size a) (λ s h. go s (ℕ-discrete s (c-row a)))
+    where
+      new : column (spiked-columns a) k ≡ a .new-rows
+      new = ap (column (spiked-columns a)) e ∙ new-column (a .columns) (a .replaced) (a .new-rows) (t .column-below)
 
-  module _ (C : Columns (size a) (a .columns)) (small : size a ≤ max-size) where
-    -- Column c.
-    cleared-new : (k : ℕ) → k ≡ a .replaced → numbers p (size a) ≡ numbers (stays a k) (size a)
-    cleared-new k e = numbers-same p (stays a k) (size a) (λ s h. go s h (ℕ-discrete s (c-row a)))
-      where
-        new : column (spiked-columns a) k ≡ a .new-rows
-        new = ap (column (spiked-columns a)) e ∙ new-column (a .columns) (a .replaced) (a .new-rows) (t .column-below)
+      go : (s : ℕ) → Dec (s ≡ c-row a) → eqb s (c-row a) || has (a .new-rows) s ≡ stays a k s
+      go s (yes z) =
+          ap (λ (b : Bool). b || has (a .new-rows) s) (T-true (eqb s (c-row a)) (eq-eqb s (c-row a) z))
+          ∙ sym (stays-own a k s z ∙ T-true (eqb k (a .replaced)) (eq-eqb k (a .replaced) e))
+      go s (no z) =
+          ap (λ (b : Bool). b || has (a .new-rows) s) (T-false (eqb s (c-row a)) (λ u. z (eqb→eq s (c-row a) u)))
+          ∙ sym (stays-other a k s z ∙ ap (λ (l : List ℕ). has l s) new)
 
-        go : (s : ℕ) → s < size a → Dec (s ≡ c-row a) → p s ≡ stays a k s
-        go s h (yes z) = ap p z ∙ W .here ∙ sym (stays-own a k s z ∙ T-true (eqb k (a .replaced)) (eq-eqb k (a .replaced) e))
-        go s h (no z) = W .others s (omega arith) z ∙ O s (omega arith) ∙ sym (stays-other a k s z ∙ ap (λ (l : List ℕ). has l s) new)
+  -- Another column.
+  abbrev struck : ℕ → List ℕ
+  struck k = without (c-row a) (column (a .columns) k)
 
-    -- Another column.
-    abbrev struck : ℕ → List ℕ
-    struck k = without (c-row a) (column (a .columns) k)
+  cleared-old : (k : ℕ) → k < size a → k ≢ a .replaced → struck k ≡ numbers (stays a k) (size a)
+  cleared-old k h n =
+      rising-same (struck k) (numbers (stays a k) (size a)) (without-rises (c-row a) (column (a .columns) k) (C .rise k h)) (numbers-rise (stays a k) (size a))
+      (λ s u.
+      let v = without-has (c-row a) (column (a .columns) k) s u in
+      numbers-are (stays a k) (size a) s .1 (rising-below (C .rise k h) s (v .0), subst T (sym (same s (v .1))) (v .0)))
+      (λ s u. back s (numbers-are (stays a k) (size a) s .0 u .1) (ℕ-discrete s (c-row a)))
+    where
+      same : (s : ℕ) → s ≢ c-row a → stays a k s ≡ has (column (a .columns) k) s
+      same s z = stays-other a k s z ∙ ap (λ (l : List ℕ). has l s) (old-column (a .columns) (a .replaced) (a .new-rows) k n)
 
-    cleared-old : (k : ℕ) → k < size a → k ≢ a .replaced → struck k ≡ numbers (stays a k) (size a)
-    cleared-old k h n =
-        rising-same (struck k) (numbers (stays a k) (size a)) (without-rises (c-row a) (column (a .columns) k) (C .rise k h)) (numbers-rise (stays a k) (size a))
-        (λ s u.
-        let v = without-has (c-row a) (column (a .columns) k) s u in
-        numbers-are (stays a k) (size a) s .1 (rising-below (C .rise k h) s (v .0), subst T (sym (same s (v .1))) (v .0)))
-        (λ s u. back s (numbers-are (stays a k) (size a) s .0 u .1) (ℕ-discrete s (c-row a)))
-      where
-        same : (s : ℕ) → s ≢ c-row a → stays a k s ≡ has (column (a .columns) k) s
-        same s z = stays-other a k s z ∙ ap (λ (l : List ℕ). has l s) (old-column (a .columns) (a .replaced) (a .new-rows) k n)
+      back : (s : ℕ) → T (stays a k s) → Dec (s ≡ c-row a) → T (has (struck k) s)
+      back s u (yes z) = absurd (n (eqb→eq k (a .replaced) (subst T (stays-own a k s z) u)))
+      back s u (no z) = has-without (c-row a) (column (a .columns) k) s (subst T (same s z) u) z
 
-        back : (s : ℕ) → T (stays a k s) → Dec (s ≡ c-row a) → T (has (struck k) s)
-        back s u (yes z) = absurd (n (eqb→eq k (a .replaced) (subst T (stays-own a k s z) u)))
-        back s u (no z) = has-without (c-row a) (column (a .columns) k) s (subst T (same s z) u) z
+  exchanged-cleared : exchanged (size a) (a .columns) (a .replaced) (c-row a) (joined (size a) (c-row a) (a .new-rows)) ≡ cleared-columns a
+  exchanged-cleared = each-same after (λ k. numbers (stays a k) (size a)) (size a) (λ k h. go k h (ℕ-discrete k (a .replaced)))
+    where
+      after : ℕ → List ℕ
+      after k = cond (eqb k (a .replaced)) (joined (size a) (c-row a) (a .new-rows)) (struck k)
 
-    pub exchanged-cleared : exchanged (size a) (a .columns) (a .replaced) (c-row a) p ≡ cleared-columns a
-    exchanged-cleared = each-same after (λ k. numbers (stays a k) (size a)) (size a) (λ k h. go k h (ℕ-discrete k (a .replaced)))
-      where
-        after : ℕ → List ℕ
-        after k = cond (eqb k (a .replaced)) (numbers p (size a)) (struck k)
-
-        go : (k : ℕ) → k < size a → Dec (k ≡ a .replaced) → after k ≡ numbers (stays a k) (size a)
-        go k h (yes e) = choose-same k (a .replaced) (numbers p (size a)) (struck k) e ∙ cleared-new k e
-        go k h (no n) = choose-other k (a .replaced) (numbers p (size a)) (struck k) n ∙ cleared-old k h n
+      go : (k : ℕ) → k < size a → Dec (k ≡ a .replaced) → after k ≡ numbers (stays a k) (size a)
+      go k h (yes e) = choose-same k (a .replaced) (joined (size a) (c-row a) (a .new-rows)) (struck k) e ∙ cleared-new k e
+      go k h (no n) = choose-other k (a .replaced) (joined (size a) (c-row a) (a .new-rows)) (struck k) n ∙ cleared-old k h n
 
 -- ---- Of a call
 
@@ -155,19 +125,15 @@ module _ {a : Call} (J : Judgeable a) where
       getD-take (a .size) rows (c-place (asked a)) 0 (placed .0) ∙ ap (at rows) call-place
 
   -- What `store` makes of its columns.
-  pub call-spiked : {p : ℕ → Bool} → Of-list p (a .new-rows)
-      → exchanged (a .size) (columns (a .size) (a .lists)) (a .column) (a .size) p ≡ spiked-columns (asked a)
-  call-spiked O = exchanged-spiked (call-columns J) (J .sound .sized .1) (J .column-below) (J .new-rise) O
+  pub call-spiked : exchanged (a .size) (columns (a .size) (a .lists)) (a .column) (a .size) (a .new-rows) ≡ spiked-columns (asked a)
+  call-spiked = exchanged-spiked (a .new-rows) (call-columns J) (J .column-below)
 
-  module _ {p q : ℕ → Bool} {r : ℕ} (O : Of-list q (a .new-rows)) (W : With q p r) (e : r ≡ c-row (asked a)) where
-    pub call-cleared-below : Only-below p (a .size)
-    call-cleared-below = with-below (of-list-below (J .new-rise) O) (omega (arith, e, c-row-below (asked a) (call-judged J), call-size J)) W
-
-    pub call-cleared : exchanged (a .size) (columns (a .size) (a .lists)) (a .column) r p ≡ cleared-columns (asked a)
-    call-cleared =
-        ap (λ (n : ℕ). exchanged n (columns (a .size) (a .lists)) (a .column) r p) (sym (call-size J))
-        ∙ ap (λ (x : ℕ). exchanged (size (asked a)) (columns (a .size) (a .lists)) (a .column) x p) e
-        ∙ exchanged-cleared (call-judged J) O (subst (With q p) e W) asked-columns (omega (arith, call-size J, J .sound .sized .1))
+  pub call-cleared : {r : ℕ} {rows : List ℕ} → r ≡ c-row (asked a) → rows ≡ joined (a .size) r (a .new-rows)
+      → exchanged (a .size) (columns (a .size) (a .lists)) (a .column) r rows ≡ cleared-columns (asked a)
+  call-cleared {r} {rows} e er =
+      ap (exchanged (a .size) (columns (a .size) (a .lists)) (a .column) r) er
+      ∙ ap₂ (λ (n x : ℕ). exchanged n (columns (a .size) (a .lists)) (a .column) x (joined n x (a .new-rows))) (sym (call-size J)) e
+      ∙ exchanged-cleared (call-judged J) asked-columns
 
   -- The total that is checked is that of the spiked columns.
   pub spiked-total-is : start-of (spiked-columns (asked a)) (a .size) ≡ new-total (a .size) (a .lists .col-starts) (a .column) (length (a .new-rows))

@@ -1,12 +1,16 @@
--- A column exchanged in a listing, for the contracts of the steps of `store`. Rests on Walk.antt and `pattern`.
-use mathlib.Core.Bool.{Bool, cond}
+-- A column exchanged in both listings, for the contracts of the steps of `store` and of `join`. Rests on Held.antt,
+-- Listing.antt, Walk.antt and `pattern`.
+use mathlib.Core.Bool.{cond, _||_}
 use mathlib.Core.List.{List, [], _∷_}
 use mathlib.Core.Path.{_≡_}
-use Prim.Native.Nat.{ℕ, _+_, _≤_, _<_}
+use Prim.Native.Nat.{ℕ, _+_, _-_, _≤_, _<_}
 use lib.Dec.{eqb}
-use Rattle.pattern.specs.Pattern.{column}
+use lib.ListN.{length, set}
+use Rattle.pattern.specs.Pattern.{has, column}
 use Rattle.pattern.specs.Places.{at}
 use Rattle.pattern.specs.Series.{each, numbers}
+use Rattle.register.specs.Held.{put}
+use Rattle.register.specs.Listing.{between, part}
 use Rattle.register.specs.Walk.{Kept}
 
 -- The numbers of a list other than `r`.
@@ -22,9 +26,9 @@ left P c r k = cond (eqb k c) [] (without r (column P k))
 abbrev pub emptied : (m : ℕ) (P : List (List ℕ)) (c r : ℕ) → List (List ℕ)
 emptied m P c r = each (left P c r) m
 
--- Row `r` is struck out of every column, and column `c` has the numbers of a set.
-abbrev pub exchanged : (m : ℕ) (P : List (List ℕ)) (c r : ℕ) → (ℕ → Bool) → List (List ℕ)
-exchanged m P c r p = each (λ k. cond (eqb k c) (numbers p m) (without r (column P k))) m
+-- Row `r` is struck out of every column, and column `c` has the rows of a list.
+abbrev pub exchanged : (m : ℕ) (P : List (List ℕ)) (c r : ℕ) → List ℕ → List (List ℕ)
+exchanged m P c r l = each (λ k. cond (eqb k c) l (without r (column P k))) m
 
 -- Column `c` has other numbers.
 abbrev pub filled : (m : ℕ) (P : List (List ℕ)) (c : ℕ) → List ℕ → List (List ℕ)
@@ -35,3 +39,26 @@ pub record Raised (c m n : ℕ) (starts starts′ : List ℕ) : Type 0 where
   pub kept : Kept (m + 1) starts starts′
   pub before : (k : ℕ) → k ≤ c → at starts′ k ≡ at starts k
   pub after : (k : ℕ) → c < k → k ≤ m → at starts′ k ≡ at starts k + n
+
+-- The numbers below `m` that are `c` or stand in a list, in rising order.
+abbrev pub joined : (m c : ℕ) → List ℕ → List ℕ
+joined m c l = numbers (λ k. eqb k c || has l k) m
+
+-- The number `c` joins each of the parts that a list names.
+abbrev pub spread : (m c : ℕ) → List ℕ → List (List ℕ) → List (List ℕ)
+spread m c [] P = P
+spread m c (k ∷ l) P = set (spread m c l P) k (joined m c (column (spread m c l P) k))
+
+-- The first `n` numbers of a list are below `c`, and the next one is not.
+pub record Cut (c n : ℕ) (l : List ℕ) : Type 0 where
+  pub within : n ≤ length l
+  pub below : (i : ℕ) → i < n → at l i < c
+  pub next : n < length l → c ≤ at l n
+
+-- The number `c` stands `i` places above its place `q` in part `k`, and the entries that were there and before place `end` are
+-- `i + 1` places higher; the starts past start `k`, up to start `top`, are as many more.
+pub record Let-in (c k end top i : ℕ) (starts entries starts′ entries′ : List ℕ) (q : ℕ) : Type 0 where
+  pub from : at starts k ≤ q
+  pub cut : Cut c (q - at starts k) (part starts entries k)
+  pub entries-now : entries′ ≡ put (q + i) (c ∷ between q end entries) entries
+  pub raised : Raised k top (i + 1) starts starts′

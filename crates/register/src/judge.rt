@@ -1,39 +1,47 @@
-// The judgment on a replacement: the verdict, with the new places of the rows or the eta rows. No list of the register changes.
+// The judgment on a replacement: the verdict, with the new places of rows and columns or the eta rows. No list of the register
+// changes. The new rows that are paired with reached columns tell the verdict but where there is one of them: none, and no full choice
+// is left; two, and two are left, of which a triangular pattern has one.
 use crate::Judgment;
 use crate::Register;
 use crate::marks::Marks;
-use crate::marks::lay;
-use crate::order::NOWHERE;
-use crate::order::enter;
+use crate::order::enter_first;
 use crate::order::top_place;
 use crate::peel::peel;
-use crate::reach::met;
 use crate::reach::reach;
-use crate::reach::rows_at;
 ghost use mathlib.Core.Path.{_≡_};
-ghost use Prim.Native.Nat.{ℕ, _+_, _-_, _≤_, _<_};
+ghost use Prim.Native.Nat.{ℕ, _≤_, _<_};
 ghost use lib.ListN.{length};
-ghost use Rattle.pattern.specs.Places.{at, Once, place};
+ghost use Rattle.pattern.specs.Places.{at, place};
 ghost use Rattle.pattern.specs.Rising.{Rising};
-ghost use Rattle.pattern.specs.Verdict.{top-place};
+ghost use Rattle.pattern.specs.Series.{greatest};
 ghost use Rattle.register.specs.Checks.{call};
-ghost use Rattle.register.specs.Judge.{Judgeable, Judges};
+ghost use Rattle.register.specs.Judge.{Judgeable, Judges, Bump-and-eta};
 ghost use Rattle.register.specs.Lent.{lists};
 ghost use Rattle.register.specs.Limits.{max-size};
 ghost use Rattle.register.specs.Marks.{marked};
-ghost use Rattle.register.specs.Sets.{Of-list};
+ghost use Rattle.register.specs.Order.{Placed};
 
-// The greatest old place of a new row, less the place p, plus 1.
-fn bump(m: usize, or: &[u16], new: &[u16], p: usize) -> usize
-    requires { ⌜ (m ≤ max-size) × (m ≤ length (now or)) × Once (at (now or)) m m × Rising m (now new) × (p ≤ top-place (at (now or)) m (now new)) ⌝ }
-    ensures { λ r. ⌜ r ≡ top-place (at (now (or .entry))) m (now (new .entry)) - p + 1 ⌝ }
+// What ELIMINATION tells: the bump, and the rows paired with the reached columns but c's, which is at place p. The places are those
+// of the rows.
+fn eliminate(
+    m: usize,
+    new: &[u16],
+    p: usize,
+    reached: Marks,
+    places: &[u16; Register::MAX_SIZE],
+    eta: &mut [u16],
+) -> Judgment
+    requires { ⌜ (m ≤ max-size) × (m ≤ length (now eta)) × ((x : ℕ) → x < m → at (now places) x < m) ⌝ }
+    requires { ⌜ Rising m (now new) × (p ≤ greatest (at (now places)) (now new)) ⌝ }
+    ensures { λ r. ⌜ Bump-and-eta m (now (places .entry)) (now (new .entry)) p (marked reached) (now (eta .entry)) r (now (eta .exit)) ⌝ }
 {
-    let mut places = [NOWHERE; Register::MAX_SIZE];
-    enter(m, or, &mut places);
-    top_place(&places, new) - p + 1
+    let eta_count = reached.lay(m, places, p, eta);
+    let bump = top_place(places, new) - p + 1;
+    Judgment::Elimination { bump, eta_count }
 }
 
-// The judgment on column c, at place p, with the new rows, which are marked in `spike`.
+// The judgment on column c, at place p, with the new rows. `places` has the place of each row and `old` that of each column, and
+// after PERMUTED their new ones. The counts are lent for the peel.
 pub fn judge(
     m: usize,
     cs: &[u16],
@@ -45,28 +53,29 @@ pub fn judge(
     c: usize,
     new: &[u16],
     p: usize,
-    spike: Marks,
+    counts: &mut [u16; Register::MAX_SIZE],
+    old: &mut [u16; Register::MAX_SIZE],
     places: &mut [u16; Register::MAX_SIZE],
     eta: &mut [u16],
 ) -> Judgment
     requires { ⌜ Judgeable (call m (lists (now cs) (now cr) (now rs) (now rc) (now or) (now oc)) c (now new) (now eta)) × (m ≤ length (now eta)) ⌝ }
-    requires { ⌜ (p ≡ place (at (now oc)) m c) × Of-list (marked spike) (now new) ⌝ }
-    requires { ⌜ (length (now places) ≡ max-size) × ((x : ℕ) → x < max-size → at (now places) x ≡ max-size) ⌝ }
+    requires { ⌜ (p ≡ place (at (now oc)) m c) × Placed m (at (now oc)) (now old) × Placed m (at (now or)) (now places) × (length (now counts) ≡ max-size) ⌝ }
     ensures { λ r. ⌜ Judges
         (call m (lists (now (cs .entry)) (now (cr .entry)) (now (rs .entry)) (now (rc .entry)) (now (or .entry)) (now (oc .entry)))
         c (now (new .entry)) (now (eta .entry)))
-        (now (places .exit)) (now (eta .exit)) r ⌝ }
+        (now (places .exit)) (now (old .exit)) (now (eta .exit)) r ⌝ }
+    ensures { λ _. ⌜ length (now (places .exit)) ≡ max-size ⌝ }
 {
-    let mut old = [NOWHERE; Register::MAX_SIZE];
-    enter(m, oc, &mut old);
-    if peel(m, cs, cr, rs, rc, oc, c, new, spike, &old, places) {
-        return Judgment::Permuted;
-    }
-    let reached = reach(m, rs, rc, or, &old, p);
-    if !met(or, reached, spike) {
+    let reached = reach(m, rs, rc, or, old, p);
+    let met = reached.hits(new, places);
+    if met == 0 {
         return Judgment::Singular;
     }
-    let eta_count = lay(rows_at(m, or, reached, p), 0, eta);
-    let bump = bump(m, or, new, p);
-    Judgment::Elimination { bump, eta_count }
+    if met == 1 {
+        if peel(m, cs, cr, rs, rc, or, oc, c, new, p, counts, old, places) {
+            return Judgment::Permuted;
+        }
+        enter_first(m, or, places);
+    }
+    eliminate(m, new, p, reached, places, eta)
 }

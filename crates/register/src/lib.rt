@@ -1,6 +1,7 @@
 // A register of one square sparse pattern, kept in six lists that the caller lends.
 mod arrange;
 mod check;
+mod join;
 mod judge;
 mod listing;
 mod look;

@@ -3,15 +3,15 @@
 use crate::Register;
 use crate::wide::wide;
 ghost use mathlib.Core.Path.{_≡_};
-ghost use Prim.Native.Nat.{ℕ, _+_, _≤_, _<_};
+ghost use Prim.Native.Nat.{ℕ, _≤_, _<_};
 ghost use lib.ListN.{length};
 ghost use Rattle.pattern.specs.Places.{at};
 ghost use Rattle.pattern.specs.Series.{numbers};
-ghost use Rattle.register.specs.Held.{put};
+ghost use Rattle.register.specs.Held.{over};
 ghost use Rattle.register.specs.Limits.{max-size, max-mark};
-ghost use Rattle.register.specs.Marks.{marked, unmarked};
-ghost use Rattle.register.specs.Reach.{With-places};
-ghost use Rattle.register.specs.Sets.{With, First, Of-list, counted};
+ghost use Rattle.register.specs.Marks.{flagged, marked, unmarked};
+ghost use Rattle.register.specs.Reach.{Markable, With-places, stands-at};
+ghost use Rattle.register.specs.Sets.{counted};
 
 pub struct Marks {
     pub marks: [bool; Marks::ROOM],
@@ -29,93 +29,64 @@ impl Marks {
         }
     }
 
-    // The number i is marked too.
-    pub fn with(mut self, i: usize) -> Self
-        requires { ⌜ i < max-mark ⌝ }
-        ensures { λ r. ⌜ With (marked self) (marked r) i ⌝ }
-    {
-        self.marks[i] = true;
-        self
-    }
-
-    // The places of the numbers are marked too, all in one call: marks by value are not copied for each.
-    pub fn with_places(mut self, numbers: &[u16], places: &[u16; Register::MAX_SIZE]) -> Self
-        requires { ⌜ ((k : ℕ) → k < length (now numbers) → (at (now numbers) k < max-size) × (at (now places) (at (now numbers) k) < max-mark)) ⌝ }
-        ensures { λ r. ⌜ With-places (marked self) (marked r) (at (now (places .entry))) (now (numbers .entry)) ⌝ }
-    {
-        let mut k = 0;
-        while k < numbers.len() {
-            self.marks[wide(places[wide(numbers[k])])] = true;
-            k += 1;
-        }
-        self
-    }
-
-    // Whether the number i is marked.
-    pub fn has(self, i: usize) -> bool
-        requires { ⌜ i < max-mark ⌝ }
-        ensures { λ r. ⌜ r ≡ marked self i ⌝ }
-    {
-        self.marks[i]
-    }
-
-    // The first marked number from `from` on, or 1,024.
-    pub fn next(self, from: usize) -> usize
-        requires { ⌜ from ≤ max-mark ⌝ }
-        ensures { λ r. ⌜ First (marked self) from r ⌝ }
-    {
-        let mut i = from;
-        while i < Marks::ROOM {
-            if self.marks[i] {
-                return i;
-            }
-            i += 1;
-        }
-        Marks::ROOM
-    }
-
-    // How many numbers are marked.
-    pub fn count(self) -> usize
-        ensures { λ r. ⌜ r ≡ counted (marked self) max-mark ⌝ }
+    // How many of the numbers have a marked place.
+    pub fn hits(self, numbers: &[u16], places: &[u16; Register::MAX_SIZE]) -> usize
+        requires { ⌜ Markable (now places) (now numbers) ⌝ }
+        ensures { λ r. ⌜ r ≡ counted (λ k. marked self (at (now (places .entry)) (at (now (numbers .entry)) k))) (length (now (numbers .entry))) ⌝ }
     {
         let mut sum = 0;
-        let mut i = 0;
-        while i < Marks::ROOM {
-            if self.marks[i] {
+        let mut k = 0;
+        while k < numbers.len() {
+            if self.marks[wide(places[wide(numbers[k])])] {
                 sum += 1;
             }
-            i += 1;
+            k += 1;
         }
         sum
     }
+
+    // Writes the numbers below m that have a marked place, but for place p, over the beginning of a list, in rising order.
+    // Replies how many they are.
+    pub fn lay(
+        self,
+        m: usize,
+        places: &[u16; Register::MAX_SIZE],
+        p: usize,
+        list: &mut [u16],
+    ) -> usize
+        requires { ⌜ (m ≤ max-size) × (m ≤ length (now list)) × ((x : ℕ) → x < m → at (now places) x < max-mark) ⌝ }
+        ensures { λ r. ⌜ (r ≡ length (numbers (stands-at (marked self) (at (now (places .entry))) p) m))
+            × (now (list .exit) ≡ over (numbers (stands-at (marked self) (at (now (places .entry))) p) m) (now (list .entry))) ⌝ }
+    {
+        let mut n = 0;
+        let mut x = 0;
+        while x < m {
+            let t = wide(places[x]);
+            if self.marks[t] {
+                if t != p {
+                    list[n] = x as u16;
+                    n += 1;
+                }
+            }
+            x += 1;
+        }
+        n
+    }
 }
 
-// The numbers of a list, as marks.
-pub fn marks_of(numbers: &[u16]) -> Marks
-    requires { ⌜ ((k : ℕ) → k < length (now numbers) → at (now numbers) k < max-mark) ⌝ }
-    ensures { λ r. ⌜ Of-list (marked r) (now (numbers .entry)) ⌝ }
+// Marks the places of the numbers. The marks are lent, and so not copied for each row that is gone through.
+pub fn mark_places(
+    numbers: &[u16],
+    places: &[u16; Register::MAX_SIZE],
+    marks: &mut [bool; Marks::ROOM],
+)
+    requires { ⌜ Markable (now places) (now numbers) × (length (now marks) ≡ max-mark) ⌝ }
+    ensures { λ _. ⌜ (length (now (marks .exit)) ≡ max-mark)
+        × With-places (flagged (now (marks .entry))) (flagged (now (marks .exit))) (at (now (places .entry))) (now (numbers .entry)) ⌝ }
 {
-    let mut marks = Marks::none();
     let mut k = 0;
     while k < numbers.len() {
-        marks.marks[wide(numbers[k])] = true;
+        marks[wide(places[wide(numbers[k])])] = true;
         k += 1;
     }
-    marks
-}
-
-// Writes the marked numbers in rising order over a list from a place on, and replies how many they are.
-pub fn lay(marks: Marks, from: usize, list: &mut [u16]) -> usize
-    requires { ⌜ from + length (numbers (marked marks) max-mark) ≤ length (now list) ⌝ }
-    ensures { λ r. ⌜ (r ≡ length (numbers (marked marks) max-mark))
-        × (now (list .exit) ≡ put from (numbers (marked marks) max-mark) (now (list .entry))) ⌝ }
-{
-    let mut n = 0;
-    let mut k = marks.next(0);
-    while k < Marks::ROOM {
-        list[from + n] = k as u16;
-        n += 1;
-        k = marks.next(k + 1);
-    }
-    n
 }

@@ -8,12 +8,12 @@ ghost use Prim.Native.Nat.{ℕ, _≤_, _<_};
 ghost use lib.ListN.{length};
 ghost use Rattle.pattern.specs.Order.{Sound};
 ghost use Rattle.pattern.specs.Pattern.{Entry};
-ghost use Rattle.pattern.specs.Places.{at, Once, place};
+ghost use Rattle.pattern.specs.Places.{at, Once};
 ghost use Rattle.pattern.specs.Series.{greatest};
 ghost use Rattle.register.specs.Limits.{max-size};
 ghost use Rattle.register.specs.Says.{Told, Says};
 ghost use Rattle.register.specs.Listing.{parts, Good};
-ghost use Rattle.register.specs.Order.{Placed, Topped};
+ghost use Rattle.register.specs.Order.{Placed, Entered, Topped};
 
 // What stands in the scratch list for a number that has no place.
 pub const NOWHERE: u16 = 1000;
@@ -30,7 +30,7 @@ pub fn enter(m: usize, numbers: &[u16], places: &mut [u16; Register::MAX_SIZE]) 
         if m <= x {
             return false;
         }
-        if places[x] != NOWHERE {
+        if places[x] < NOWHERE {
             return false;
         }
         places[x] = t as u16;
@@ -39,19 +39,29 @@ pub fn enter(m: usize, numbers: &[u16], places: &mut [u16; Register::MAX_SIZE]) 
     true
 }
 
-// The place of the number x, or m where it has none.
-pub fn find(m: usize, numbers: &[u16], x: usize) -> usize
-    requires { ⌜ m ≤ length (now numbers) ⌝ }
-    ensures { λ r. ⌜ r ≡ place (at (now (numbers .entry))) m x ⌝ }
+// No number has a place.
+fn clear(places: &mut [u16; Register::MAX_SIZE])
+    requires { ⌜ length (now places) ≡ max-size ⌝ }
+    ensures { λ _. ⌜ (length (now (places .exit)) ≡ max-size) × ((x : ℕ) → x < max-size → at (now (places .exit)) x ≡ max-size) ⌝ }
 {
+    let mut x = 0;
+    while x < Register::MAX_SIZE {
+        places[x] = NOWHERE;
+        x += 1;
+    }
+}
+
+// Enters the places of the first n numbers, of which none stands twice. No other number has one then.
+pub fn enter_first(n: usize, numbers: &[u16], places: &mut [u16; Register::MAX_SIZE])
+    requires { ⌜ (n ≤ max-size) × (n ≤ length (now numbers)) × Once (at (now numbers)) n max-size × (length (now places) ≡ max-size) ⌝ }
+    ensures { λ _. ⌜ Entered max-size (at (now (numbers .entry))) n (now (places .exit)) × ((x : ℕ) → x < max-size → at (now (places .exit)) x ≤ max-size) ⌝ }
+{
+    clear(places);
     let mut t = 0;
-    while t < m {
-        if wide(numbers[t]) == x {
-            return t;
-        }
+    while t < n {
+        places[wide(numbers[t])] = t as u16;
         t += 1;
     }
-    m
 }
 
 // The greatest place of a row.

@@ -1,39 +1,92 @@
 // The greedy peel of the spiked pattern: at each place of the new order the column of the least old place all of whose rows but
-// one have a place already, with that row. A column that has been taken has no row left, so a count of one is all that
-// tells an available column. The lists are those of the columns (cs, cr), of the rows (rs, rc) and of the order's columns (oc).
+// one have a place already, with that row. Before c's place nothing changes, so the peel begins there. A column that has been taken
+// has no row left, so a count of one is all that tells an available column. The lists are those of the columns (cs, cr), of
+// the rows (rs, rc) and of the order (or, oc).
 use crate::Register;
 use crate::listing::part;
-use crate::marks::Marks;
 use crate::order::NOWHERE;
+use crate::order::enter_first;
 use crate::wide::wide;
 ghost use mathlib.Core.Path.{_≡_};
 ghost use Prim.Native.Nat.{ℕ, _+_, _-_, _≤_, _<_};
 ghost use lib.ListN.{length, set};
-ghost use Rattle.pattern.specs.Order.{Triangular};
+ghost use Rattle.pattern.specs.Order.{Sound, Triangular};
 ghost use Rattle.pattern.specs.Pattern.{Entry};
-ghost use Rattle.pattern.specs.Places.{at};
+ghost use Rattle.pattern.specs.Places.{at, place};
 ghost use Rattle.pattern.specs.Rising.{Rising};
 ghost use Rattle.pattern.specs.Turned.{Same-entries};
 ghost use Rattle.register.specs.Limits.{max-size};
 ghost use Rattle.register.specs.Says.{Told};
 ghost use Rattle.register.specs.Listing.{Within, parts, Good};
-ghost use Rattle.register.specs.Marks.{marked};
 ghost use Rattle.register.specs.Order.{Placed};
-ghost use Rattle.register.specs.Peel.{spiked, spiked-part, Some-left, Is-left, Counted, Next-one, No-one, Strikes, Struck, Peeled};
-ghost use Rattle.register.specs.Sets.{Of-list};
+ghost use Rattle.register.specs.Peel.{spiked, spiked-part, unplaced, Rows-low, Flagged, Some-left, Is-left, Counted, Next-one, No-one, Strikes, Struck, Peeled};
 
-// How many rows column y of the spiked pattern has.
-fn row_count(cs: &[u16], cr: &[u16], c: usize, new: &[u16], y: usize) -> usize
-    requires { ⌜ (y + 1 < length (now cs)) × Within (now cs) (now cr) y ⌝ }
-    ensures { λ r. ⌜ r ≡ length (spiked-part (now (cs .entry)) (now (cr .entry)) c (now (new .entry)) y) ⌝ }
+// What stands in the scratch list for a row of the new column that has no place.
+const NEW: u16 = 1001;
+
+// Tells the new rows from the others that have no place.
+fn flag(new: &[u16], places: &mut [u16; Register::MAX_SIZE])
+    requires { ⌜ Rows-low (now new) × (length (now places) ≡ max-size) × ((x : ℕ) → x < max-size → at (now places) x ≤ max-size) ⌝ }
+    ensures { λ _. ⌜ Flagged (now (new .entry)) (now (places .entry)) (now (places .exit)) ⌝ }
 {
-    if y == c {
-        return new.len();
+    let mut k = 0;
+    while k < new.len() {
+        let x = wide(new[k]);
+        if places[x] == NOWHERE {
+            places[x] = NEW;
+        }
+        k += 1;
     }
-    part(cs, cr, y).len()
 }
 
-// How many rows each column has, by its old place.
+// How many rows have no place.
+fn rows_left(rows: &[u16], places: &[u16; Register::MAX_SIZE]) -> u16
+    requires { ⌜ Rows-low (now rows) × (length (now rows) ≤ max-size) ⌝ }
+    ensures { λ r. ⌜ r ≡ unplaced (now (places .entry)) (now (rows .entry)) ⌝ }
+{
+    let mut sum: u16 = 0;
+    let mut k = 0;
+    while k < rows.len() {
+        if NOWHERE <= places[wide(rows[k])] {
+            sum += 1;
+        }
+        k += 1;
+    }
+    sum
+}
+
+// The same of column y of the spiked pattern.
+fn count_of(
+    cs: &[u16],
+    cr: &[u16],
+    c: usize,
+    new: &[u16],
+    y: usize,
+    places: &[u16; Register::MAX_SIZE],
+) -> u16
+    requires { ⌜ (y + 1 < length (now cs)) × Within (now cs) (now cr) y ⌝ }
+    requires { ⌜ Rows-low (spiked-part (now cs) (now cr) c (now new) y) × (length (spiked-part (now cs) (now cr) c (now new) y) ≤ max-size) ⌝ }
+    ensures { λ r. ⌜ r ≡ unplaced (now (places .entry)) (spiked-part (now (cs .entry)) (now (cr .entry)) c (now (new .entry)) y) ⌝ }
+{
+    if y == c {
+        return rows_left(new, places);
+    }
+    rows_left(part(cs, cr, y), places)
+}
+
+// No count before place n.
+fn zero_first(n: usize, counts: &mut [u16; Register::MAX_SIZE])
+    requires { ⌜ (n ≤ max-size) × (length (now counts) ≡ max-size) ⌝ }
+    ensures { λ _. ⌜ (length (now (counts .exit)) ≡ max-size) × ((t : ℕ) → t < n → at (now (counts .exit)) t ≡ 0) ⌝ }
+{
+    let mut t = 0;
+    while t < n {
+        counts[t] = 0;
+        t += 1;
+    }
+}
+
+// How many rows of each column from old place p on have no place, by its old place.
 fn count_left(
     m: usize,
     cs: &[u16],
@@ -41,15 +94,18 @@ fn count_left(
     oc: &[u16],
     c: usize,
     new: &[u16],
+    p: usize,
+    places: &[u16; Register::MAX_SIZE],
     counts: &mut [u16; Register::MAX_SIZE],
 )
-    requires { ⌜ Good m (now cs) (now cr) × (m ≤ length (now oc)) × ((t : ℕ) → t < m → at (now oc) t < m) ⌝ }
+    requires { ⌜ Good m (now cs) (now cr) × (m ≤ length (now oc)) × ((t : ℕ) → t < m → at (now oc) t < m) × (p ≤ m) ⌝ }
     requires { ⌜ (c < m) × Rising m (now new) × (length (now counts) ≡ max-size) ⌝ }
-    ensures { λ _. ⌜ Counted m (spiked m (now (cs .entry)) (now (cr .entry)) c (now (new .entry))) (at (now (oc .entry))) (now (counts .exit)) ⌝ }
+    ensures { λ _. ⌜ Counted m (spiked m (now (cs .entry)) (now (cr .entry)) c (now (new .entry))) (at (now (oc .entry))) (now (places .entry)) p
+        (now (counts .entry)) (now (counts .exit)) ⌝ }
 {
-    let mut t = 0;
+    let mut t = p;
     while t < m {
-        counts[t] = row_count(cs, cr, c, new, wide(oc[t])) as u16;
+        counts[t] = count_of(cs, cr, c, new, wide(oc[t]), places);
         t += 1;
     }
 }
@@ -75,7 +131,7 @@ fn row_left(rows: &[u16], places: &[u16; Register::MAX_SIZE]) -> usize
     ensures { λ r. ⌜ Is-left (now (places .entry)) (now (rows .entry)) r ⌝ }
 {
     let mut k = 0;
-    while places[wide(rows[k])] != NOWHERE {
+    while places[wide(rows[k])] < NOWHERE {
         k += 1;
     }
     wide(rows[k])
@@ -138,43 +194,52 @@ fn strike(
     t
 }
 
-// Whether the peel takes every column; then `places` has the new place of each row. `old` has the old place of each column.
+// Whether the peel takes every column; then `places` has the new place of each row, and `old`, which had the old place of each
+// column, its new one. The column c has the old place p. The counts are lent for the work alone.
 pub fn peel(
     m: usize,
     cs: &[u16],
     cr: &[u16],
     rs: &[u16],
     rc: &[u16],
+    or: &[u16],
     oc: &[u16],
     c: usize,
     new: &[u16],
-    spike: Marks,
-    old: &[u16; Register::MAX_SIZE],
+    p: usize,
+    counts: &mut [u16; Register::MAX_SIZE],
+    old: &mut [u16; Register::MAX_SIZE],
     places: &mut [u16; Register::MAX_SIZE],
 ) -> bool
     requires { ⌜ Good m (now cs) (now cr) × Good m (now rs) (now rc) × Same-entries (parts m (now cs) (now cr)) (parts m (now rs) (now rc)) ⌝ }
-    requires { ⌜ (m ≤ length (now oc)) × Placed m (at (now oc)) (now old) ⌝ }
-    requires { ⌜ (c < m) × Rising m (now new) × Of-list (marked spike) (now new) ⌝ }
-    requires { ⌜ (length (now places) ≡ max-size) × ((x : ℕ) → x < max-size → at (now places) x ≡ max-size) ⌝ }
+    requires { ⌜ (m ≤ length (now or)) × (m ≤ length (now oc)) × Sound (Entry (parts m (now cs) (now cr))) m (at (now or)) (at (now oc)) ⌝ }
+    requires { ⌜ (c < m) × Rising m (now new) × (p ≡ place (at (now oc)) m c) ⌝ }
+    requires { ⌜ (length (now counts) ≡ max-size) × Placed m (at (now oc)) (now old) × (length (now places) ≡ max-size) ⌝ }
     ensures { λ full. ⌜ Told full
-        (Peeled m (spiked m (now (cs .entry)) (now (cr .entry)) c (now (new .entry))) (at (now (oc .entry))) (now (places .exit)))
+        (Peeled m (spiked m (now (cs .entry)) (now (cr .entry)) c (now (new .entry))) (at (now (oc .entry))) (now (places .exit)) (now (old .exit)))
         (¬ Triangular (Entry (spiked m (now (cs .entry)) (now (cr .entry)) c (now (new .entry)))) m) ⌝ }
+    ensures { λ _. ⌜ length (now (places .exit)) ≡ max-size ⌝ }
 {
-    let mut counts = [0u16; Register::MAX_SIZE];
-    count_left(m, cs, cr, oc, c, new, &mut counts);
-    let mut t = 0;
-    let mut n = 0;
+    enter_first(p, or, places);
+    flag(new, places);
+    zero_first(p, counts);
+    count_left(m, cs, cr, oc, c, new, p, places, counts);
+    let mut t = p;
+    let mut n = p;
     while n < m {
-        t = next_one(m, &counts, t);
+        t = next_one(m, counts, t);
         if t == m {
             return false;
         }
-        let x = column_left(cs, cr, c, new, wide(oc[t]), places);
+        let y = wide(oc[t]);
+        let x = column_left(cs, cr, c, new, y, places);
+        let is_new = places[x] == NEW;
         places[x] = n as u16;
-        t = strike(part(rs, rc, x), c, old, &mut counts, t);
-        if spike.has(x) {
-            t = lower(&mut counts, wide(old[c]), t);
+        t = strike(part(rs, rc, x), c, old, counts, t);
+        if is_new {
+            t = lower(counts, p, t);
         }
+        old[y] = n as u16;
         n += 1;
     }
     true

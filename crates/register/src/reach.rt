@@ -3,19 +3,16 @@
 use crate::Register;
 use crate::listing::part;
 use crate::marks::Marks;
+use crate::marks::mark_places;
 use crate::wide::wide;
 ghost use Prim.Native.Nat.{ℕ, _≤_, _<_};
-ghost use lib.Dec.{T};
 ghost use lib.ListN.{length};
 ghost use Rattle.pattern.specs.Order.{Sound};
 ghost use Rattle.pattern.specs.Places.{at};
-ghost use Rattle.register.specs.Limits.{max-size, max-mark};
 ghost use Rattle.register.specs.Listing.{parts, Good};
 ghost use Rattle.register.specs.Marks.{marked};
 ghost use Rattle.register.specs.Order.{Placed};
-ghost use Rattle.register.specs.Reach.{By-rows, Reached, Rows-at};
-ghost use Rattle.register.specs.Says.{Says};
-ghost use Rattle.register.specs.Sets.{Only-below};
+ghost use Rattle.register.specs.Reach.{By-rows, Reached};
 
 // The old places of the columns of Reach(c), c being the column at place p. `old` has the old place of each column.
 pub fn reach(
@@ -32,42 +29,15 @@ pub fn reach(
         → Sound (By-rows (parts m (now (rs .entry)) (now (rc .entry)))) m (at (now (or .entry))) col
         → Reached (By-rows (parts m (now (rs .entry)) (now (rc .entry)))) m (at (now (or .entry))) col (col p) (marked r)) ⌝ }
 {
-    let mut marks = Register::empty_marks().with(p);
+    let empty = Register::empty_marks();
+    let mut marks = empty.marks;
+    marks[p] = true;
     let mut t = p;
     while t < m {
-        marks = marks.with_places(part(rs, rc, wide(or[t])), old);
-        t = marks.next(t + 1);
-    }
-    marks
-}
-
-// Whether a marked row stands at a marked place.
-pub fn met(or: &[u16], reached: Marks, spike: Marks) -> bool
-    requires { ⌜ ((t : ℕ) → t < max-mark → T (marked reached t) → (t < length (now or)) × (at (now or) t < max-mark)) ⌝ }
-    ensures { λ answer. ⌜ Says answer ((t : ℕ) × (t < max-mark) × T (marked reached t) × T (marked spike (at (now (or .entry)) t))) ⌝ }
-{
-    let mut t = reached.next(0);
-    while t < Marks::ROOM {
-        if spike.has(wide(or[t])) {
-            return true;
+        if marks[t] {
+            mark_places(part(rs, rc, wide(or[t])), old, &mut marks);
         }
-        t = reached.next(t + 1);
+        t += 1;
     }
-    false
-}
-
-// The rows at the marked places but p.
-pub fn rows_at(m: usize, or: &[u16], reached: Marks, p: usize) -> Marks
-    requires { ⌜ (m ≤ max-size) × (m ≤ length (now or)) × Only-below (marked reached) m × ((t : ℕ) → t < m → at (now or) t < m) ⌝ }
-    ensures { λ r. ⌜ Rows-at m (at (now (or .entry))) p (marked reached) (marked r) ⌝ }
-{
-    let mut rows = Marks::none();
-    let mut t = reached.next(0);
-    while t < m {
-        if t != p {
-            rows = rows.with(wide(or[t]));
-        }
-        t = reached.next(t + 1);
-    }
-    rows
+    Marks { marks }
 }

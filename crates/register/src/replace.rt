@@ -4,25 +4,29 @@ use crate::Checked;
 use crate::Judgment;
 use crate::Register;
 use crate::Replaced;
-use crate::arrange::lay_cols;
-use crate::arrange::lay_rows;
+use crate::arrange::lay_order;
 use crate::arrange::move_last;
 use crate::check::check_call;
+use crate::join::first;
+use crate::join::join;
 use crate::judge::judge;
-use crate::marks::marks_of;
-use crate::order::NOWHERE;
-use crate::order::find;
+use crate::order::enter_first;
 use crate::store::store;
 use crate::wide::wide;
+ghost use mathlib.Core.Path.{_≡_};
 ghost use Prim.Native.Nat.{_≤_};
 ghost use lib.ListN.{length};
+ghost use Rattle.pattern.specs.Places.{at};
 ghost use Rattle.register.specs.Checks.{call, New-fits};
 ghost use Rattle.register.specs.Judge.{Judgeable};
 ghost use Rattle.register.specs.Lent.{lists};
+ghost use Rattle.register.specs.Limits.{max-size};
+ghost use Rattle.register.specs.Order.{Placed};
 ghost use Rattle.register.specs.Replace.{outcome, Answered, Replaces};
 ghost use Rattle.register.specs.Reply.{said, reply};
 
-// Judges a call that no check refuses, and makes the change.
+// Judges a call that no check refuses, and makes the change. `old` and `places` have the places of the columns and of the rows;
+// the counts are lent for the judgment.
 fn change(
     m: usize,
     cs: &mut [u16],
@@ -34,17 +38,19 @@ fn change(
     c: usize,
     new: &[u16],
     eta: &mut [u16],
+    counts: &mut [u16; Register::MAX_SIZE],
+    old: &mut [u16; Register::MAX_SIZE],
+    places: &mut [u16; Register::MAX_SIZE],
 ) -> Judgment
     requires { ⌜ Judgeable (call m (lists (now cs) (now cr) (now rs) (now rc) (now or) (now oc)) c (now new) (now eta)) × (m ≤ length (now eta)) ⌝ }
     requires { ⌜ New-fits (call m (lists (now cs) (now cr) (now rs) (now rc) (now or) (now oc)) c (now new) (now eta)) ⌝ }
+    requires { ⌜ (length (now counts) ≡ max-size) × Placed m (at (now oc)) (now old) × Placed m (at (now or)) (now places) ⌝ }
     ensures { λ r. ⌜ Answered
         (call m (lists (now (cs .entry)) (now (cr .entry)) (now (rs .entry)) (now (rc .entry)) (now (or .entry)) (now (oc .entry)))
         c (now (new .entry)) (now (eta .entry)))
         (outcome (said r) (lists (now (cs .exit)) (now (cr .exit)) (now (rs .exit)) (now (rc .exit)) (now (or .exit)) (now (oc .exit))) (now (eta .exit))) ⌝ }
 {
-    let spike = marks_of(new);
-    let p = find(m, oc, c);
-    let mut places = [NOWHERE; Register::MAX_SIZE];
+    let p = wide(old[c]);
     let judgment = judge(
         m,
         cs,
@@ -56,20 +62,22 @@ fn change(
         c,
         new,
         p,
-        spike,
-        &mut places,
+        counts,
+        old,
+        places,
         eta,
     );
     match judgment {
         Judgment::Singular => {}
         Judgment::Permuted => {
-            store(m, cs, cr, rs, rc, c, m, spike);
-            lay_rows(m, &places, or);
-            lay_cols(m, cs, cr, &places, oc);
+            store(m, cs, cr, rs, rc, c, m, new);
+            lay_order(m, places, or);
+            lay_order(m, old, oc);
         }
         Judgment::Elimination { bump, eta_count } => {
             let r = wide(or[p]);
-            store(m, cs, cr, rs, rc, c, r, spike.with(r));
+            let n = join(new, r, places);
+            store(m, cs, cr, rs, rc, c, r, first(places, n));
             move_last(m, p, or);
             move_last(m, p, oc);
         }
@@ -99,5 +107,24 @@ pub fn replace(
     if let Checked::Refused(why) = checked {
         return Replaced::Refused(why);
     }
-    Replaced::Given(change(m, cs, cr, rs, rc, or, oc, c, new, eta))
+    let mut counts = [0u16; Register::MAX_SIZE];
+    let mut old = [0u16; Register::MAX_SIZE];
+    let mut places = [0u16; Register::MAX_SIZE];
+    enter_first(m, oc, &mut old);
+    enter_first(m, or, &mut places);
+    Replaced::Given(change(
+        m,
+        cs,
+        cr,
+        rs,
+        rc,
+        or,
+        oc,
+        c,
+        new,
+        eta,
+        &mut counts,
+        &mut old,
+        &mut places,
+    ))
 }

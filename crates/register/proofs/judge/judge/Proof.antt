@@ -1,30 +1,37 @@
--- `judge`: the peel, and where it stops the sweep.
-use mathlib.Core.Path.{_≡_, refl, ap, _∙_, subst}
+-- `judge`: the new rows at reached places are counted, and where there is one, the peel decides.
+use mathlib.Core.Bool.{Bool}
+use mathlib.Core.Logic.{_≢_, ⊎-elim}
+use mathlib.Core.List.{List}
+use mathlib.Core.Path.{_≡_, refl, sym, ap, _∙_, subst}
 use Prim.Native.Nat.{ℕ, _≤_, _<_}
 use native.Mathlib.Omega.{arith}
-use lib.ListN.{length, getD-replicate}
+use lib.Dec.{T}
+use lib.ListN.{length}
 use borrow.Author.Needs.{needs}
+use Rattle.pattern.specs.Order.{Triangular}
+use Rattle.pattern.specs.Pattern.{has}
 use Rattle.pattern.specs.Places.{at, place}
+use Rattle.pattern.specs.Verdict.{Spike}
 use Rattle.pattern.proofs.Finding.{place-of}
-use Rattle.pattern.proofs.Numbers.{numbers-few}
+use Rattle.pattern.proofs.Tests.{has-among, among-has}
 use Rattle.register.specs.Checks.{Call, call}
 use Rattle.register.specs.Judge.{Judgeable}
 use Rattle.register.specs.Lent.{lists, rows}
 use Rattle.register.specs.Marks.{marked}
 use Rattle.register.specs.Order.{Placed}
 use Rattle.register.specs.Reach.{By-rows, Reached}
-use Rattle.register.proofs.Answers.{surely, refuted, shown}
-use Rattle.register.proofs.Judging.{rows-sound, place-low, judged-permuted, judged-singular, c-before-top, judged-elimination}
-use Rattle.register.proofs.Numbered.{below-numbers}
+use Rattle.register.specs.Replace as replace
+use Rattle.register.specs.Sets.{counted}
+use Rattle.register.proofs.Counting.{counted-some, counted-two, some-counted}
+use Rattle.register.proofs.Judging.{rows-sound, Met, judged-permuted, judged-singular, two-met, c-before-top, judged-elimination}
+use Rattle.register.proofs.Orders.{entered-placed, once-wide, placed-below}
+use Rattle.register.proofs.Rises.{rising-once}
 use Rattle.register.proofs.Soundness.{columns-good, rows-good}
 use Rattle.register.proofs.judge.judge.Statement.{statement}
 use Rattle.register.proofs.judge.judge.Tie as tie
 
--- The old places of the columns have been entered.
-module _ (c : tie.After-enter) where
-  abbrev begun : tie.Start
-  begun = c .before .before .before .before .before .before .before .before .before .before
-
+-- What is given.
+module _ (begun : tie.Start) where
   abbrev asked : Call
   asked =
       call (begun .args .m)
@@ -34,105 +41,147 @@ module _ (c : tie.After-enter) where
   J : Judgeable asked
   J = begun .pre .0 .0
 
-  old-placed : Placed (asked .size) (at (asked .lists .order-cols)) (c .enter .last .1 .1 .0)
-  old-placed = surely (c .enter .ensures) (J .sound .order .cols)
+  abbrev places : List ℕ
+  places = begun .args .places .now
+
+  rows-placed : Placed (asked .size) (at (asked .lists .order-rows)) places
+  rows-placed = begun .pre .1 .2
 
   p-place : (begun .args .p < asked .size) × (at (asked .lists .order-cols) (begun .args .p) ≡ asked .column)
   p-place =
       let q = place-of (J .sound .order .cols) (asked .column) (J .column-below) in
-      let e = begun .pre .1 .0 .0 in
+      let e = begun .pre .1 .0 in
       (omega (arith, e, q .0), ap (at (asked .lists .order-cols)) e ∙ q .1)
-
--- The sweep has found the places of Reach(c).
-module _ (c : tie.After-reach) where
-  abbrev entered : tie.After-enter
-  entered = c .before .before .before .before .before .before
-
-  abbrev Finds : ℕ → Type 0
-  Finds x =
-      Reached (By-rows (rows (asked entered .size) (asked entered .lists))) (asked entered .size) (at (asked entered .lists .order-rows))
-      (at (asked entered .lists .order-cols)) x (marked (c .reach .result))
-
-  found : Finds (asked entered .column)
-  found = subst Finds (p-place entered .1) (c .reach .ensures (at (asked entered .lists .order-cols)) (old-placed entered) (rows-sound (J entered)))
-
-enter-requires : tie.Need-enter-requires
-enter-requires c κs = let s = c .before .before .before .before .before .before .before .before .before in ((s .pre .0 .0 .sound .sized .1, s .pre .0 .0 .sound .long .order-cols-fit), (refl, λ x h. getD-replicate 1000 x 1000 0 h))
-
-peel-requires : tie.Need-peel-requires
-peel-requires c κs =
-    let e = c .before .before in
-    let L = J e .sound in
-    ((columns-good L, rows-good L, L .agree), ((L .long .order-cols-fit, old-placed e), ((J e .column-below, J e .new-rise, begun e .pre .1 .0 .1), begun e .pre .1 .1)))
-
-returns : tie.Need-returns
-returns c = judged-permuted (J (c .before .before .before .before)) (c .before .peel .ensures .yes (c .if1 .taken))
 
 reach-requires : tie.Need-reach-requires
 reach-requires c κs =
-    let e = c .before .before .before .before .before in
-    let L = J e .sound in (
-      (rows-good L, L .long .order-rows-fit, L .order .rows .below),
-      (p-place e .0, λ y h. omega (arith, old-placed e .stand y h, place-of (L .order .cols) y h .0)),
+    let s = c .before .before .before .before .before .before .before .before .before in
+    let L = J s .sound in
+    ((rows-good L, L .long .order-rows-fit, L .order .rows .below), (p-place s .0, placed-below (s .pre .1 .1)))
+
+-- The sweep has found the places of Reach(c).
+module _ (c : tie.After-reach) where
+  abbrev s : tie.Start
+  s = c .before .before .before .before .before .before .before .before .before .before
+
+  abbrev reached : ℕ → Bool
+  reached = marked (c .reach .result)
+
+  abbrev Finds : ℕ → Type 0
+  Finds x =
+      Reached (By-rows (rows (asked s .size) (asked s .lists))) (asked s .size) (at (asked s .lists .order-rows)) (at (asked s .lists .order-cols)) x reached
+
+  found : Finds (asked s .column)
+  found = subst Finds (p-place s .1) (c .reach .ensures (at (asked s .lists .order-cols)) (s .pre .1 .1) (rows-sound (J s)))
+
+  new-in : (k : ℕ) → k < length (asked s .new-rows) → at (asked s .new-rows) k < asked s .size
+  new-in = J s .new-rise .below
+
+hits-requires : tie.Need-hits-requires
+hits-requires c κs = λ k h.
+    let r = c .before in
+    let b = new-in r k h in
+    omega (arith, b, J (s r) .sound .sized, placed-below (rows-placed (s r)) (at (asked (s r) .new-rows) k) b)
+
+-- How many new rows are met is known.
+module _ (c : tie.After-hits) where
+  abbrev swept : tie.After-reach
+  swept = c .before .before
+
+  abbrev begun : tie.Start
+  begun = s swept
+
+  abbrev new : List ℕ
+  new = asked begun .new-rows
+
+  abbrev test : ℕ → Bool
+  test k = reached swept (at (places begun) (at new k))
+
+  -- The tests are of new rows, each at its place.
+  met-of : (k : ℕ) → k < length new → T (test k) → Met (J begun) (found swept) (at new k)
+  met-of k h t = (among-has new k h, subst (λ (s : ℕ). T (reached swept s)) (rows-placed begun .stand (at new k) (new-in swept k h)) t)
+
+  none-met : c .hits .result ≡ 0 → (x : ℕ) → ¬ Met (J begun) (found swept) x
+  none-met z x μ =
+      let a = has-among new x (μ .0) in
+      let e = rows-placed begun .stand (at new (a .0)) (new-in swept (a .0) (a .1)) ∙ ap (place (at (asked begun .lists .order-rows)) (asked begun .size)) (a .2) in
+      omega (arith, c .hits .ensures, some-counted test (length new) (a .0) (a .1) (subst (λ (s : ℕ). T (reached swept s)) (sym e) (μ .1)))
+
+  some-met : c .hits .result ≢ 0 → (x : ℕ) × Met (J begun) (found swept) x
+  some-met n = let a = counted-some test (length new) (omega (arith, c .hits .ensures, n)) in (at new (a .0), met-of (a .0) (a .1) (a .2))
+
+  no-order : c .hits .result ≢ 0 → c .hits .result ≢ 1 → ¬ Triangular (Spike (replace.asked (asked begun))) (asked begun .size)
+  no-order n k =
+      let a = counted-two test (length new) (omega (arith, c .hits .ensures, n, k)) in
+      let i : a .0 < length new = omega (arith, a .2, a .3) in
+      two-met (J begun) (found swept) (at new (a .0)) (at new (a .1)) (λ z. omega (arith, a .2, rising-once (J begun .new-rise) .once (a .0) (a .1) i (a .3) z)) (met-of (a .0) i (a .4)) (met-of (a .1) (a .3) (a .5))
+
+returns : tie.Need-returns
+returns c = let h = c .before in (judged-singular (J (begun h)) (found (swept h)) (none-met h (c .if1 .taken)), rows-placed (begun h) .long)
+
+peel-requires : tie.Need-peel-requires
+peel-requires c κs =
+    let s = c .before .before .before .before .before .before .before .before .before .before .before .before .before .before .before .before .before in
+    let L = J s .sound in (
+      (columns-good L, rows-good L, L .agree),
+      ((L .long .order-rows-fit, L .long .order-cols-fit, L .order), ((J s .column-below, J s .new-rise, s .pre .1 .0), (s .pre .1 .3, s .pre .1 .1, rows-placed s .long))),
     )
 
-met-requires : tie.Need-met-requires
-met-requires c κs = λ t h u.
-    let L = J (entered c) .sound in
-    let b = place-low (J (entered c)) (found c) (begun (entered c) .pre .1 .0 .1) t h u in
-    omega (arith, b, L .long .order-rows-fit, L .order .rows .below t b, L .sized)
-
 returns-2 : tie.Need-returns-2
-returns-2 c = let r = c .before .before in judged-singular (J (entered r)) (found r) (begun (entered r) .pre .1 .0 .1) (refuted (c .before .met .ensures) (c .if2 .taken))
+returns-2 c = let k = c .before .peel .ensures in (judged-permuted (J (c .before .before .before .before .before .before .before .before .before .before .before .before .before .before .before .before .before .before .before)) (k .0 .yes (c .if3 .taken)), k .1)
 
-rows-at-requires : tie.Need-rows-at-requires
-rows-at-requires c κs =
-    let r = c .before .before in
-    let L = J (entered r) .sound in
-    (L .sized .1, L .long .order-rows-fit, found r .below, L .order .rows .below)
+enter-first-requires : tie.Need-enter-first-requires
+enter-first-requires c κs =
+    let s = c .before .before .before .before .before .before .before .before .before .before .before .before .before .before .before .before .before .before .before .before in
+    let L = J s .sound in
+    (L .sized .1, L .long .order-rows-fit, once-wide (omega arith) (L .sized .1) (L .order .rows), c .before .before .peel .ensures .1)
 
-lay-requires : tie.Need-lay-requires
-lay-requires c κs =
-    let r = c .before .before .before .before in
-    let s = begun (entered r) in
-    let w = marked (c .before .rows-at .result) in
-    omega (arith, numbers-few w (s .args .m), ap length (below-numbers (c .before .rows-at .ensures .below) (omega (arith, J (entered r) .sound .sized))), s .pre .0 .1)
+-- What is known where the ways join.
+module _ (c : tie.Joined2) where
+  abbrev hit : tie.After-hits
+  hit = c .before .before
 
-bump-requires : tie.Need-bump-requires
-bump-requires c κs =
-    let r = c .before .before .before .before .before .before .before in
-    let e = entered r in
-    let L = J e .sound in
-    let none = c .before .before .before .before .before .before .before .before .before .before .peel .ensures .no (c .before .before .before .before .before .before .before .before .before .if1 .left) in
-    let met = shown (c .before .before .before .before .before .before .met .ensures) (c .before .before .before .before .before .if2 .left) in
-    let W = c .before .before .before .before .rows-at .ensures in
-    (L .sized .1, L .long .order-rows-fit, L .order .rows, J e .new-rise, c-before-top (J e) (found r) (begun e .pre .1 .0 .1) met none (begun e .pre .1 .0 .0) W)
+  none : ¬ Triangular (Spike (replace.asked (asked (begun hit)))) (asked (begun hit) .size)
+  none = ⊎-elim (λ w. w .4 .ensures .0 .no (w .5 .left)) (λ w. no-order hit (c .before .if1 .left) (w .0 .left)) (c .if2 .came)
 
-same-length : tie.Need-same-length
-same-length c = search needs
+  abbrev Rows-placed : List ℕ → Type 0
+  Rows-placed = Placed (asked (begun hit) .size) (at (asked (begun hit) .lists .order-rows))
+
+  placed : Rows-placed (c .if2 .places)
+  placed =
+      ⊎-elim
+      (λ w. subst Rows-placed (sym (w .10)) (entered-placed (J (begun hit) .sound .order .rows) (w .7 .ensures .0)))
+      (λ w. subst Rows-placed (sym (w .3)) (rows-placed (begun hit)))
+      (c .if2 .came)
+
+  met : (x : ℕ) × Met (J (begun hit)) (found (swept hit)) x
+  met = some-met hit (c .before .if1 .left)
+
+eliminate-requires : tie.Need-eliminate-requires
+eliminate-requires c κs =
+    let j = c .before .before in
+    let h = hit j in
+    let s = begun h in (
+      (J s .sound .sized .1, s .pre .0 .1, placed-below (placed j)),
+      (J s .new-rise, c-before-top (J s) (found (swept h)) (met j .0) (met j .1) (none j) (s .pre .1 .0) (placed j)),
+    )
 
 returns-3 : tie.Need-returns-3
 returns-3 c =
-    let b = c .before in
-    let r = b .before .before .before .before .before .before .before in
-    let e = entered r in
-    let none = b .before .before .before .before .before .before .before .before .before .before .peel .ensures .no (b .before .before .before .before .before .before .before .before .before .if1 .left) in
-    let met = shown (b .before .before .before .before .before .before .met .ensures) (b .before .before .before .before .before .if2 .left) in
-    let W = b .before .before .before .before .rows-at .ensures in
-    judged-elimination (J e) (found r) (begun e .pre .1 .0 .1) met none (begun e .pre .1 .0 .0) W _ _ _ (c .bump .ensures) (b .before .before .lay .ensures .0) (b .before .before .lay .ensures .1)
+    let j = c .before .before .before .before .before in
+    let h = hit j in
+    (judged-elimination (J (begun h)) (found (swept h)) (met j .0) (met j .1) (none j) (begun h .pre .1 .0) (placed j) (c .before .before .eliminate .ensures), placed j .long)
 
 pub judge-spec : {M : Type 1} → statement M
 judge-spec =
     tie.close
     (tie.spec
-    enter-requires
-    peel-requires
-    returns
     reach-requires
-    met-requires
+    hits-requires
+    returns
+    peel-requires
     returns-2
-    rows-at-requires
-    lay-requires
-    bump-requires
-    same-length
+    enter-first-requires
+    eliminate-requires
+    (λ c. search needs)
     returns-3)

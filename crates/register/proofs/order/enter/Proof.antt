@@ -5,7 +5,8 @@ use native.Mathlib.Omega.{arith}
 use borrow.Author.Needs.{needs}
 use Rattle.pattern.specs.Places.{at}
 use Rattle.register.proofs.Answers.{told-yes, told-no}
-use Rattle.register.proofs.Orders.{Entered, entered-none, entered-twice, entered-more, entered-all}
+use Rattle.register.specs.Order.{Entered}
+use Rattle.register.proofs.Orders.{entered-none, entered-twice, entered-more, entered-all}
 use Rattle.register.proofs.order.enter.Statement.{statement}
 use Rattle.register.proofs.order.enter.Tie as tie
 
@@ -16,7 +17,7 @@ abbrev μ-loop : tie.MeasureT-loop
 μ-loop m numbers places₀ t₀ places t = m - t
 
 loop-holds : tie.Need-loop-holds Inv-loop μ-loop
-loop-holds c = (omega arith, entered-none _ (c .before .pre .1 .0) (c .before .pre .1 .1))
+loop-holds c = (omega arith, entered-none _ (c .before .pre .1 .0) (λ x h. omega (arith, c .before .pre .1 .1 x h)))
 
 returns : tie.Need-returns Inv-loop μ-loop
 returns c = told-no (λ o. omega (arith, o .below (c .before .before .before .before .loop .t) (omega arith)))

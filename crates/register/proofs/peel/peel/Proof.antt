@@ -5,27 +5,31 @@ use mathlib.Core.Logic.{⊎-elim}
 use mathlib.Core.Path.{_≡_, refl, sym, ap, _∙_, subst}
 use Prim.Native.Nat.{ℕ, _+_, _-_, _≤_, _<_}
 use native.Mathlib.Omega.{arith}
+use lib.Dec.{T, eqb}
 use lib.ListN.{set}
 use Rattle.pattern.specs.Pattern.{has, column}
-use Rattle.pattern.specs.Places.{at, Once}
+use Rattle.pattern.specs.Places.{at, Once, place}
 use Rattle.pattern.proofs.Turning.{Columns, row-below}
 use Rattle.register.specs.Limits.{max-size}
 use Rattle.register.specs.Peel.{spiked, spiked-part, Some-left, Is-left, No-one}
 use Rattle.register.proofs.Answers.{told-yes, told-no}
 use Rattle.register.proofs.PeelCounts.{no-one-on}
 use Rattle.register.proofs.Listings.{good-within}
+use Rattle.register.proofs.NewRows.{new-told}
+use Rattle.register.proofs.Orders.{once-wide}
 use Rattle.register.proofs.Peels.{
   spiked-is,
   Left,
   Peeling,
-  peeling-none,
+  peeling-start,
   peeling-some,
   peeling-stuck,
   peeling-all,
   peeling-more,
+  old-stands,
   Given,
   given-columns,
-  col-at,
+  p-in,
   strikes,
   left-struck,
   c-some,
@@ -35,35 +39,71 @@ use Rattle.register.proofs.peel.peel.Statement.{statement}
 use Rattle.register.proofs.peel.peel.Tie as tie
 
 abbrev Inv-loop : tie.InvT-loop
-Inv-loop m cs cr rs rc oc c new spike old places₀ counts₀ t₀ n₀ places counts t n = Peeling m (spiked m cs cr c new) (at oc) n places counts t
+Inv-loop m cs cr rs rc or oc c new p counts₀ old₀ places₀ t₀ n₀ counts old places t n = Peeling m (spiked m cs cr c new) (at oc) new n places old counts t
 
 abbrev μ-loop : tie.MeasureT-loop
-μ-loop m cs cr rs rc oc c new spike old places₀ counts₀ t₀ n₀ places counts t n = m - n
+μ-loop m cs cr rs rc or oc c new p counts₀ old₀ places₀ t₀ n₀ counts old places t n = m - n
 
 -- What is given.
 module _ (s : tie.Start Inv-loop μ-loop) where
   abbrev S : List (List ℕ)
   S = spiked (s .args .m) (s .args .cs .now) (s .args .cr .now) (s .args .c) (s .args .new .now)
 
-  given : Given (s .args .m) (s .args .cs .now) (s .args .cr .now) (s .args .rs .now) (s .args .rc .now) (at (s .args .oc .now)) (s .args .c) (s .args .new .now) (s .args .old .now)
+  abbrev col : ℕ → ℕ
+  col = at (s .args .oc .now)
+
+  given : Given (s .args .m) (s .args .cs .now) (s .args .cr .now) (s .args .rs .now) (s .args .rc .now) (s .args .or .now) (s .args .oc .now) (s .args .c) (s .args .new .now) (s .args .p)
   given =
       record {
         columns = s .pre .0 .0;
         rows = s .pre .0 .1;
         same = s .pre .0 .2;
-        order = s .pre .1 .0 .1;
+        rows-fit = s .pre .1 .0 .0;
+        cols-fit = s .pre .1 .0 .1;
+        order = s .pre .1 .0 .2;
         inside = s .pre .1 .1 .0 .0;
         rise = s .pre .1 .1 .0 .1;
+        c-place = s .pre .1 .1 .0 .2;
       }
 
   small : s .args .m ≤ max-size
   small = s .pre .0 .0 .small
 
   cols : Columns (s .args .m) S
-  cols = given-columns given
+  cols = given-columns (s .args .or .now) (s .args .oc .now) given
 
-  once : Once (at (s .args .oc .now)) (s .args .m) (s .args .m)
-  once = s .pre .1 .0 .1 .once
+  once : Once col (s .args .m) (s .args .m)
+  once = s .pre .1 .0 .2 .cols
+
+  p-low : s .args .p < s .args .m
+  p-low = p-in (s .args .or .now) (s .args .oc .now) given .0
+
+enter-first-requires : tie.Need-enter-first-requires Inv-loop μ-loop
+enter-first-requires c κs =
+    let s = c .before .before .before .before .before .before .before .before in
+    (omega (arith, p-low s, small s), omega (arith, p-low s, s .pre .1 .0 .0), once-wide (omega (arith, p-low s)) (small s) (s .pre .1 .0 .2 .rows), s .pre .1 .1 .1 .2)
+
+flag-requires : tie.Need-flag-requires Inv-loop μ-loop
+flag-requires c κs =
+    let e = c .before .enter-first .ensures in
+    let s = c .before .before .before .before .before .before .before .before .before .before in
+    (λ k h. omega (arith, s .pre .1 .1 .0 .1 .below k h, small s), e .0 .long, e .1)
+
+zero-first-requires : tie.Need-zero-first-requires Inv-loop μ-loop
+zero-first-requires c κs = let s = c .before .before .before .before .before .before .before .before .before .before .before .before in (omega (arith, p-low s, small s), s .pre .1 .1 .1 .0)
+
+count-left-requires : tie.Need-count-left-requires Inv-loop μ-loop
+count-left-requires c κs =
+    let s = c .before .before .before .before .before .before .before .before .before .before .before .before .before .before .before in
+    ((s .pre .0 .0, s .pre .1 .0 .1, once s .below, omega (arith, p-low s)), (s .pre .1 .1 .0 .0, s .pre .1 .1 .0 .1, c .before .before .zero-first .ensures .0))
+
+loop-holds : tie.Need-loop-holds Inv-loop μ-loop
+loop-holds c =
+    let z = c .before .before .before in
+    let f = z .before .before in
+    let e = f .before .before in
+    let s = e .before .before .before .before .before .before .before .before .before in
+    peeling-start (s .args .or .now) (s .args .oc .now) (given s) (e .enter-first .ensures .0) (f .flag .ensures) (s .pre .1 .1 .1 .1) (z .zero-first .ensures .1) (c .count-left .ensures)
 
 -- A turn: the place `t` has been found.
 module _ (c : tie.After-next-one Inv-loop μ-loop) where
@@ -71,29 +111,21 @@ module _ (c : tie.After-next-one Inv-loop μ-loop) where
   head = c .before .before .before
 
   abbrev begun : tie.Start Inv-loop μ-loop
-  begun = head .before .before .before .before .before .before .before .before .before
+  begun = head .before .before .before .before .before .before .before .before .before .before .before .before .before .before .before .before .before
 
   none-before : No-one (head .loop .counts) (c .next-one .result)
   none-before = no-one-on (head .loop .counts) (head .loop .inv .past) (c .next-one .ensures)
 
-count-left-requires : tie.Need-count-left-requires Inv-loop μ-loop
-count-left-requires c κs =
-    let s = c .before .before .before .before .before .before .before in
-    ((s .pre .0 .0, s .pre .1 .0 .0, once s .below), (s .pre .1 .1 .0 .0, s .pre .1 .1 .0 .1, refl))
-
-loop-holds : tie.Need-loop-holds Inv-loop μ-loop
-loop-holds c =
-    let s = c .before .before .before .before .before .before .before .before in
-    peeling-none (small s) (cols s) (once s) (s .pre .1 .1 .1 .0) (s .pre .1 .1 .1 .1) (c .count-left .ensures)
-
 next-one-requires : tie.Need-next-one-requires Inv-loop μ-loop
-next-one-requires c κs = let l = c .before .before in omega (arith, l .loop .inv .within, small (l .before .before .before .before .before .before .before .before .before))
+next-one-requires c κs =
+    let l = c .before .before in
+    omega (arith, l .loop .inv .within, small (l .before .before .before .before .before .before .before .before .before .before .before .before .before .before .before .before .before))
 
 returns : tie.Need-returns Inv-loop μ-loop
 returns c =
     let f = c .before in
     let s = begun f in
-    told-no (peeling-stuck (small s) (cols s) (once s) (head f .loop .inv) (omega arith) (λ u h. none-before f u (omega arith)))
+    (told-no (peeling-stuck (small s) (cols s) (once s) (head f .loop .inv) (omega arith) (λ u h. none-before f u (omega arith))), head f .loop .inv .entered .long)
 
 -- Its column and the place are in range.
 module _ (c : tie.After-wide Inv-loop μ-loop) where
@@ -110,8 +142,7 @@ module _ (c : tie.After-wide Inv-loop μ-loop) where
   col-in = omega (arith, c .wide .ensures, once s .below (found .next-one .result) place-in)
 
   -- Its rows.
-  rows-are : column (S s) (at (s .args .oc .now) (found .next-one .result))
-      ≡ spiked-part (s .args .cs .now) (s .args .cr .now) (s .args .c) (s .args .new .now) (c .wide .result)
+  rows-are : column (S s) (col s (found .next-one .result)) ≡ spiked-part (s .args .cs .now) (s .args .cr .now) (s .args .c) (s .args .new .now) (c .wide .result)
   rows-are = ap (column (S s)) (sym (c .wide .ensures)) ∙ spiked-is (s .pre .0 .0) (s .pre .1 .1 .0 .0) (s .pre .1 .1 .0 .1) (c .wide .result) col-in
 
   one-left : at (head found .loop .counts) (found .next-one .result) ≡ 1
@@ -125,7 +156,7 @@ mul-wide : tie.Need-mul-wide Inv-loop μ-loop
 mul-wide c = omega (arith, c .before .next-one .ensures .within, small (begun (c .before)))
 
 shared-slice-read-wide : tie.Need-shared-slice-read-wide Inv-loop μ-loop
-shared-slice-read-wide c = let f = c .before .before in omega (arith, f .next-one .ensures .within, begun f .pre .1 .0 .0)
+shared-slice-read-wide c = let f = c .before .before in omega (arith, f .next-one .ensures .within, begun f .pre .1 .0 .1)
 
 column-left-requires : tie.Need-column-left-requires Inv-loop μ-loop
 column-left-requires c κs =
@@ -138,41 +169,47 @@ module _ (c : tie.After-column-left Inv-loop μ-loop) where
   abbrev turn : tie.After-wide Inv-loop μ-loop
   turn = c .before .before
 
+  abbrev inv : Peeling (s turn .args .m) (S (s turn)) (col (s turn)) (s turn .args .new .now) (head (found turn) .loop .n) (head (found turn) .loop .places) (head (found turn) .loop .old) (head (found turn) .loop .counts) (head (found turn) .loop .t)
+  inv = head (found turn) .loop .inv
+
   abbrev x : ℕ
   x = c .column-left .result
 
-  is-left : Is-left (head (found turn) .loop .places) (column (S (s turn)) (at (s turn .args .oc .now) (found turn .next-one .result))) x
+  is-left : Is-left (head (found turn) .loop .places) (column (S (s turn)) (col (s turn) (found turn .next-one .result))) x
   is-left = subst (λ (l : List ℕ). Is-left (head (found turn) .loop .places) l x) (sym (rows-are turn)) (c .column-left .ensures)
 
   row-in : x < s turn .args .m
-  row-in = row-below (cols (s turn)) x (at (s turn .args .oc .now) (found turn .next-one .result)) (is-left .there)
+  row-in = row-below (cols (s turn)) x (col (s turn) (found turn .next-one .result)) (is-left .there)
 
   row-small : x < 1000
   row-small = omega (arith, row-in, small (s turn))
 
   -- Once the counts are right again, one more place has been taken.
-  one-more : {counts′ : List ℕ} {t′ : ℕ} → Left (s turn .args .m) (S (s turn)) (at (s turn .args .oc .now)) (set (head (found turn) .loop .places) x (head (found turn) .loop .n)) counts′
+  one-more : {counts′ : List ℕ} {t′ : ℕ} → Left (s turn .args .m) (S (s turn)) (col (s turn)) (set (head (found turn) .loop .places) x (head (found turn) .loop .n)) counts′
       → No-one counts′ t′ → t′ ≤ s turn .args .m
-      → Peeling (s turn .args .m) (S (s turn)) (at (s turn .args .oc .now)) (head (found turn) .loop .n + 1) (set (head (found turn) .loop .places) x (head (found turn) .loop .n)) counts′ t′
+      → Peeling (s turn .args .m) (S (s turn)) (col (s turn)) (s turn .args .new .now) (head (found turn) .loop .n + 1) (set (head (found turn) .loop .places) x (head (found turn) .loop .n)) (set (head (found turn) .loop .old) (turn .wide .result) (head (found turn) .loop .n)) counts′ t′
   one-more =
-      peeling-more (small (s turn)) (cols (s turn)) (once (s turn)) (head (found turn) .loop .inv) (omega arith) (found turn .next-one .result) (place-in turn)
-      (one-left turn) (none-before (found turn)) x (is-left .there) (is-left .nowhere)
+      peeling-more (small (s turn)) (cols (s turn)) (once (s turn)) inv (omega arith) (found turn .next-one .result) (place-in turn)
+      (one-left turn) (none-before (found turn)) x (is-left .there) (is-left .nowhere) (turn .wide .result) (turn .wide .ensures)
 
 part-requires : tie.Need-part-requires Inv-loop μ-loop
 part-requires c κs =
-    let G = s (turn c) .pre .0 .1 in
-    (omega (arith, row-in c, G .room .starts-long), good-within G (x c) (row-in c))
+    let r = c .before in
+    let G = s (turn r) .pre .0 .1 in
+    (omega (arith, row-in r, G .room .starts-long), good-within G (x r) (row-in r))
 
 strike-requires : tie.Need-strike-requires Inv-loop μ-loop
 strike-requires c κs =
-    let r = c .before .before in
+    let p = c .before .before in
+    let r = p .before .before in
     let f = found (turn r) in
-    (strikes (given (begun f)) (head f .loop .inv .left) (row-in r) (is-left r .nowhere) (c .before .part .ensures), none-before f)
+    let s = begun f in
+    (strikes (s .args .or .now) (s .args .oc .now) (given s) (head f .loop .old) (inv r .left) (row-in r) (is-left r .nowhere) (p .part .ensures) (old-stands (small s) (cols s) (once s) (inv r) (x r) (is-left r .nowhere)), none-before f)
 
 -- Its columns but c have been struck, and it is known whether the new column has it.
-module _ (c : tie.After-has Inv-loop μ-loop) where
+module _ (c : tie.After-strike Inv-loop μ-loop) where
   abbrev row : tie.After-column-left Inv-loop μ-loop
-  row = c .before .before .before .before
+  row = c .before .before .before .before .before
 
   abbrev start : tie.Start Inv-loop μ-loop
   start = s (turn row)
@@ -181,61 +218,54 @@ module _ (c : tie.After-has Inv-loop μ-loop) where
   loop = head (found (turn row))
 
   abbrev counts : List ℕ
-  counts = c .before .strike .last .1 .1 .1 .0
-
-  has-new : {b : Bool} → c .has .result ≡ b → has (start .args .new .now) (x row) ≡ b
-  has-new e = sym (start .pre .1 .1 .0 .2 (x row) (omega (arith, row-small row))) ∙ sym (c .has .ensures) ∙ e
+  counts = c .strike .last .1 .1 .1 .0
 
   place-low : loop .loop .n < max-size
   place-low = omega (arith, small start)
 
-  right-struck : c .has .result ≡ false → Left (start .args .m) (S start) (at (start .args .oc .now)) (set (loop .loop .places) (x row) (loop .loop .n)) counts
-  right-struck e =
-      left-struck (given start) (loop .loop .inv .left) (row-in row) (is-left row .nowhere) (c .before .before .before .part .ensures)
-      (loop .loop .inv .entered .long) place-low (c .before .strike .ensures .0) (has-new e)
+  has-new : (b : Bool) → eqb (at (loop .loop .places) (x row)) 1001 ≡ b → has (start .args .new .now) (x row) ≡ b
+  has-new = new-told (start .args .new .now) (loop .loop .places) (x row) (inv row .told) (row-small row) (is-left row .nowhere)
 
-  right-lowered : c .has .result ≡ true → (p : ℕ) → p ≡ at (start .args .old .now) (start .args .c)
-      → Left (start .args .m) (S start) (at (start .args .oc .now)) (set (loop .loop .places) (x row) (loop .loop .n)) (set counts p (at counts p - 1))
-  right-lowered e p ep =
-      left-lowered (given start) (loop .loop .inv .left) (row-in row) (is-left row .nowhere) (c .before .before .before .part .ensures)
-      (loop .loop .inv .entered .long) place-low (c .before .strike .ensures .0) (has-new e) p (at counts p - 1) ep refl
+  stands : (y : ℕ) → y < start .args .m → T (has (column (S start) y) (x row)) → at (loop .loop .old) y ≡ place (col start) (start .args .m) y
+  stands = old-stands (small start) (cols start) (once start) (inv row) (x row) (is-left row .nowhere)
 
-  some-lower : c .has .result ≡ true → 0 < at counts (at (start .args .old .now) (start .args .c))
-  some-lower e =
-      c-some (given start) (loop .loop .inv .left) (row-in row) (is-left row .nowhere) (c .before .before .before .part .ensures)
-      (loop .loop .inv .entered .long) place-low (c .before .strike .ensures .0) (has-new e)
+  right-struck : has (start .args .new .now) (x row) ≡ false → Left (start .args .m) (S start) (col start) (set (loop .loop .places) (x row) (loop .loop .n)) counts
+  right-struck =
+      left-struck (start .args .or .now) (start .args .oc .now) (given start) (loop .loop .old) (inv row .left) (row-in row) (is-left row .nowhere) (c .before .before .before .part .ensures)
+      stands (inv row .entered .long) place-low (c .strike .ensures .0)
 
-  col-small : start .args .c < 1000
-  col-small = omega (arith, small start, start .pre .1 .1 .0 .0)
+  right-lowered : has (start .args .new .now) (x row) ≡ true
+      → Left (start .args .m) (S start) (col start) (set (loop .loop .places) (x row) (loop .loop .n)) (set counts (start .args .p) (at counts (start .args .p) - 1))
+  right-lowered e =
+      left-lowered (start .args .or .now) (start .args .oc .now) (given start) (loop .loop .old) (inv row .left) (row-in row) (is-left row .nowhere) (c .before .before .before .part .ensures)
+      stands (inv row .entered .long) place-low (c .strike .ensures .0) e (at counts (start .args .p) - 1) refl
+
+  some-lower : has (start .args .new .now) (x row) ≡ true → 0 < at counts (start .args .p)
+  some-lower =
+      c-some (start .args .or .now) (start .args .oc .now) (given start) (loop .loop .old) (inv row .left) (row-in row) (is-left row .nowhere) (c .before .before .before .part .ensures)
+      stands (inv row .entered .long) place-low (c .strike .ensures .0)
 
 lower-requires : tie.Need-lower-requires Inv-loop μ-loop
 lower-requires c κs =
-    let h = c .before .before .before .before in
-    let s = start h in (
-      omega (arith, c .wide2 .ensures, col-at (given s) (s .args .c) (s .pre .1 .1 .0 .0) .0, small s),
-      h .before .strike .ensures .0 .long,
-      rw (c .wide2 .ensures) (some-lower h (c .before .before .before .if2 .taken)),
-      h .before .strike .ensures .1,
-    )
+    let k = c .before .before in
+    let s = start k in
+    (omega (arith, p-low s, small s), k .strike .ensures .0 .long, some-lower k (has-new k true (c .before .if2 .taken)), k .strike .ensures .1)
 
 loop-again : tie.Need-loop-again Inv-loop μ-loop
 loop-again c =
-    let h = c .before in
-    let within = found (turn (row h)) .next-one .ensures .within in
-    let struck = h .before .strike .ensures in
+    let k = c .before in
+    let within = found (turn (row k)) .next-one .ensures .within in
+    let struck = k .strike .ensures in
     ⊎-elim
-    (λ w.
-    let p = w .3 .result in
-    one-more (row h) (rw (w .5, w .4 .ensures .0) (right-lowered h (w .0 .taken) p (w .3 .ensures))) (rw (w .5, w .6) (w .4 .ensures .1))
-    (omega (arith, w .6, w .4 .ensures .2, struck .2, within)))
-    (λ w. one-more (row h) (rw (w .1) (right-struck h (w .0 .left))) (rw (w .1, w .2) (struck .1)) (omega (arith, w .2, struck .2, within)))
+    (λ w. one-more (row k) (rw (w .3, w .2 .ensures .0) (right-lowered k (has-new k true (w .0 .taken)))) (rw (w .3, w .4) (w .2 .ensures .1)) (omega (arith, w .4, w .2 .ensures .2, struck .2, within)))
+    (λ w. one-more (row k) (rw (w .1) (right-struck k (has-new k false (w .0 .left)))) (rw (w .1, w .2) (struck .1)) (omega (arith, w .2, struck .2, within)))
     (c .if2 .came)
 
 returns-2 : tie.Need-returns-2 Inv-loop μ-loop
 returns-2 c =
     let l = c .before in
-    let s = l .before .before .before .before .before .before .before .before .before in
-    told-yes (peeling-all (small s) (cols s) (once s) (l .loop .inv) (omega (arith, l .loop .inv .upto)))
+    let s = l .before .before .before .before .before .before .before .before .before .before .before .before .before .before .before .before .before in
+    (told-yes (peeling-all (small s) (cols s) (once s) (l .loop .inv) (omega (arith, l .loop .inv .upto))), l .loop .inv .entered .long)
 
 pub peel-spec : {M : Type 1} → statement M
 peel-spec =
@@ -243,6 +273,9 @@ peel-spec =
     (tie.spec
     Inv-loop
     μ-loop
+    enter-first-requires
+    flag-requires
+    zero-first-requires
     count-left-requires
     loop-holds
     next-one-requires
@@ -251,17 +284,18 @@ peel-spec =
     shared-slice-read-wide
     (λ c κs. tt)
     column-left-requires
-    (λ c. omega (arith, small (s (turn c))))
     (λ c. omega (arith, row-small c))
     (λ c. row-small c)
+    (λ c. omega (arith, small (s (turn (c .before)))))
+    (λ c. omega (arith, row-small (c .before)))
+    (λ c. row-small (c .before))
     part-requires
     strike-requires
-    (λ c κs. omega (arith, row-small (c .before .before .before)))
-    (λ c. omega (arith, col-small (c .before .before)))
-    (λ c. col-small (c .before .before))
-    (λ c κs. tt)
     lower-requires
-    (λ c. omega (arith, small (s (turn (row (c .before))))))
+    (λ c. omega (arith, small (start (c .before))))
+    (λ c. omega (arith, col-in (turn (row (c .before))), small (start (c .before))))
+    (λ c. omega (arith, col-in (turn (row (c .before))), small (start (c .before))))
+    (λ c. omega (arith, small (start (c .before))))
     (λ c. omega arith)
     loop-again
     returns-2)

@@ -13,7 +13,7 @@ use Rattle.register.proofs.peel.row_left.Statement.{statement}
 use Rattle.register.proofs.peel.row_left.Tie as tie
 
 abbrev Inv-loop : tie.InvT-loop
-Inv-loop rows places k₀ k = (j : ℕ) × (k ≤ j) × (j < length rows) × (at places (at rows j) ≡ max-size)
+Inv-loop rows places k₀ k = (j : ℕ) × (k ≤ j) × (j < length rows) × (max-size ≤ at places (at rows j))
 
 abbrev μ-loop : tie.MeasureT-loop
 μ-loop rows places k₀ k = length rows - k
@@ -34,7 +34,7 @@ loop-again c =
     let l = w .before .before in
     let s = l .before .before in
     let a = l .loop .inv in
-    let d : l .loop .k ≢ a .0 = λ e. c .if1 .taken (ap (at (s .args .places .now)) (w .wide .ensures ∙ ap (at (s .args .rows .now)) e) ∙ a .3) in
+    let d : l .loop .k ≢ a .0 = λ e. omega (arith, c .if1 .taken, ap (at (s .args .places .now)) (w .wide .ensures ∙ ap (at (s .args .rows .now)) e), a .3) in
     (a .0, omega (arith, a .1), a .2, a .3)
 
 returns : tie.Need-returns Inv-loop μ-loop
@@ -45,7 +45,7 @@ returns c =
     let a = l .loop .inv in
     record {
       there = rw (c .wide2 .ensures) (among-has (s .args .rows .now) (l .loop .k) (omega (arith, a .1, a .2)));
-      nowhere = ap (at (s .args .places .now)) (c .wide2 .ensures ∙ sym (w .wide .ensures)) ∙ c .before .before .if1 .left;
+      nowhere = omega (arith, ap (at (s .args .places .now)) (c .wide2 .ensures ∙ sym (w .wide .ensures)), c .before .before .if1 .left);
     }
 
 pub row-left-spec : {M : Type 1} → statement M

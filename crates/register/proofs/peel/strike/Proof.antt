@@ -47,7 +47,7 @@ lower-requires c κs =
     let l = head w .loop in
     let S = s w .pre .0 in
     let e = place-is w (c .wide2 .ensures) in (
-      omega (arith, e, S .apart .below (l .k) (more w)),
+      omega (arith, e, S .inside (l .k) (more w) (not-c w (c .before .before .before .if1 .taken))),
       l .inv .1 .long,
       rw e (next-some S (more w) (l .inv .1) (not-c w (c .before .before .before .if1 .taken))),
       l .inv .2,

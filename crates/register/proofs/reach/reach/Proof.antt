@@ -1,82 +1,96 @@
 -- `reach`: the rows of the marked places before t have been gone through.
+use mathlib.Core.Bool.{true}
+use mathlib.Core.List.{List}
+use mathlib.Core.Logic.{⊎-elim}
 use mathlib.Core.Path.{_≡_, ap, _∙_}
 use Prim.Native.Nat.{ℕ, _-_, _≤_, _<_}
 use native.Mathlib.Omega.{arith}
-use lib.ListN.{length}
+use lib.ListN.{length, length-set}
 use borrow.Author.Needs.{needs}
-use Rattle.pattern.specs.Pattern.{column}
-use mathlib.Core.List.{List}
-use Rattle.register.proofs.Bools.{unmarked-none}
-use Rattle.register.proofs.Sweeping.{Sweeping, sweeping-none, sweeping-more, sweeping-all}
-use Rattle.register.proofs.Listings.{good-columns, good-within, good-column}
-use Rattle.register.specs.Reach.{By-rows}
-use Rattle.register.specs.Order.{Placed}
-use Rattle.register.specs.Marks.{marked}
-use Rattle.register.specs.Listing.{part, parts}
-use Rattle.pattern.proofs.Tests.{true-T}
-use Rattle.pattern.specs.Places.{at}
 use Rattle.pattern.specs.Order.{Sound}
-use mathlib.Core.Bool.{true}
+use Rattle.pattern.specs.Pattern.{column}
+use Rattle.pattern.specs.Places.{at}
+use Rattle.pattern.proofs.Tests.{true-T}
+use Rattle.register.specs.Listing.{part, parts}
+use Rattle.register.specs.Marks.{flagged, marked}
+use Rattle.register.specs.Order.{Placed}
+use Rattle.register.specs.Reach.{By-rows}
+use Rattle.register.proofs.Bools.{unmarked-none, unmarked-long, stored-flag}
+use Rattle.register.proofs.Listings.{good-columns, good-within, good-column}
+use Rattle.register.proofs.Sweeping.{Sweeping, sweeping-none, sweeping-same, sweeping-more, sweeping-all}
 use Rattle.register.proofs.reach.reach.Statement.{statement}
 use Rattle.register.proofs.reach.reach.Tie as tie
 
 abbrev Inv-loop : tie.InvT-loop
 Inv-loop m rs rc or old p marks₀ t₀ marks t =
-    (t ≤ 1024)
-    × (t < 1024 → marked marks t ≡ true)
-    × ((col : ℕ → ℕ) → Placed m col old → Sound (By-rows (parts m rs rc)) m (at or) col → Sweeping m (parts m rs rc) (at or) col (col p) t (marked marks))
+    (t ≤ m)
+    × (length marks ≡ 1024)
+    × ((col : ℕ → ℕ) → Placed m col old → Sound (By-rows (parts m rs rc)) m (at or) col → Sweeping m (parts m rs rc) (at or) col (col p) t (flagged marks))
 
 abbrev μ-loop : tie.MeasureT-loop
 μ-loop m rs rc or old p marks₀ t₀ marks t = m - t
 
--- At the part: the turn, and that the part is the row at its place.
-module _ (c : tie.After-part Inv-loop μ-loop) where
-  abbrev head : tie.At-loop Inv-loop μ-loop
-  head = c .before .before .before .before
-
-  abbrev begun : tie.Start Inv-loop μ-loop
-  begun = head .before .before .before .before .before .before
-
-  row-in : at (begun .args .or .now) (head .loop .t) < begun .args .m
-  row-in = begun .pre .0 .2 (head .loop .t) (omega arith)
-
-  is-row : c .part .result .now ≡ column (parts (begun .args .m) (begun .args .rs .now) (begun .args .rc .now)) (at (begun .args .or .now) (head .loop .t))
-  is-row = good-column (begun .pre .0 .0) (at (begun .args .or .now) (head .loop .t)) row-in (c .part .ensures ∙ ap (part (begun .args .rs .now) (begun .args .rc .now)) (c .before .wide .ensures))
-
 loop-holds : tie.Need-loop-holds Inv-loop μ-loop
+unfolding marked
 loop-holds c =
-    let s = c .before .before .before .before .before in (
-      omega (arith, s .pre),
-      λ h. c .with .ensures .here,
-      λ col L S. sweeping-none (s .pre .0 .0) L S (s .args .p) (s .pre .1 .0) (rw (c .before .empty-marks .ensures) unmarked-none) (c .with .ensures),
+    let s = c .before .before .before .before .before in
+    let e = c .before .empty-marks .ensures in
+    let long : length (c .before .empty-marks .result .marks) ≡ 1024 = rw e unmarked-long in
+    let h = s .pre .1 .0 in (
+      omega (arith, h),
+      length-set (c .before .empty-marks .result .marks) (s .args .p) true ∙ long,
+      λ col L S. sweeping-none (s .pre .0 .0) L S (s .args .p) h (rw e unmarked-none) (stored-flag (c .before .empty-marks .result .marks) (s .args .p) (omega (arith, h, s .pre .0 .0 .small)) long),
     )
+
+-- The row of place t, and its columns.
+module _ (s : tie.Start Inv-loop μ-loop) (t row : ℕ) (h : t < s .args .m) (er : row ≡ at (s .args .or .now) t) where
+  row-in : row < s .args .m
+  row-in = omega (arith, er, s .pre .0 .2 t h)
+
+  is-row : {l : List ℕ} → l ≡ part (s .args .rs .now) (s .args .rc .now) row → l ≡ column (parts (s .args .m) (s .args .rs .now) (s .args .rc .now)) (at (s .args .or .now) t)
+  is-row e = good-column (s .pre .0 .0) row row-in e ∙ ap (column (parts (s .args .m) (s .args .rs .now) (s .args .rc .now))) er
 
 part-requires : tie.Need-part-requires Inv-loop μ-loop
 part-requires c κs =
-    let l = c .before .before .before in
+    let l = c .before .before .before .before in
     let s = l .before .before .before .before .before .before in
-    let h = s .pre .0 .2 (l .loop .t) (omega arith) in
-    omega (arith, c .wide .ensures, h, s .pre .0 .0 .room, good-within (s .pre .0 .0) (c .wide .result) (omega (arith, c .wide .ensures, h)))
+    let b = row-in s (l .loop .t) (c .wide .result) (omega arith) (c .wide .ensures) in
+    (omega (arith, b, s .pre .0 .0 .room .starts-long), good-within (s .pre .0 .0) (c .wide .result) b)
 
-with-places-requires : tie.Need-with-places-requires Inv-loop μ-loop
-with-places-requires c κs = λ k h.
-    let s = begun c in
-    let y = good-columns (s .pre .0 .0) .rise (at (s .args .or .now) (head c .loop .t)) (row-in c) .below k (omega (arith, ap length (is-row c))) in
-    let e = ap (λ (l : List ℕ). at l k) (is-row c) in
-    omega (arith, y, e, s .pre .0 .0 .small, s .pre .1 .1 (at (c .part .result .now) k) (omega (arith, e, y)))
-
-loop-less : tie.Need-loop-less Inv-loop μ-loop
-loop-less c = let F = c .next .ensures in omega (arith, F .after)
+mark-places-requires : tie.Need-mark-places-requires Inv-loop μ-loop
+mark-places-requires c κs =
+    let l = c .before .before .before .before .before .before in
+    let s = l .before .before .before .before .before .before in
+    let w = c .before .before in
+    let b = row-in s (l .loop .t) (w .wide .result) (omega arith) (w .wide .ensures) in (
+      λ k h.
+          let y = good-columns (s .pre .0 .0) .rise (at (s .args .or .now) (l .loop .t)) (omega (arith, w .wide .ensures, b)) .below k in
+          let e = is-row s (l .loop .t) (w .wide .result) (omega arith) (w .wide .ensures) (c .before .part .ensures) in
+          let z = ap (λ (j : List ℕ). at j k) e in
+          let low : at (c .before .part .result .now) k < s .args .m = omega (arith, z, y (omega (arith, ap length e))) in
+          omega (arith, low, s .pre .0 .0 .small, s .pre .1 .1 (at (c .before .part .result .now) k) low),
+      l .loop .inv .1,
+    )
 
 loop-again : tie.Need-loop-again Inv-loop μ-loop
+unfolding flagged
 loop-again c =
-    let p = c .before .before in
-    let l = head p in
-    let s = begun p in
-    let F = c .next .ensures in
-    (F .within, F .there, λ col L S. sweeping-more (s .pre .0 .0) L S (omega arith) (true-T (l .loop .inv .1 (omega (arith, s .pre .0 .0 .small)))) (l .loop .inv .2 col L S) (rw (is-row p) at (c .before .with-places .ensures)) F)
+    let l = c .before .before in
+    let s = l .before .before .before .before .before .before in
+    let G = s .pre .0 .0 in
+    ⊎-elim
+    (λ w. (
+      omega arith,
+      rw (w .6) (w .5 .ensures .0),
+      λ col L S.
+          let e = is-row s (l .loop .t) (w .2 .result) (omega arith) (w .2 .ensures) (w .3 .ensures) in
+          rw (w .6) (sweeping-more G L S (omega arith) (true-T (w .0 .taken)) (l .loop .inv .2 col L S) (rw e at (w .5 .ensures .1))),
+    ))
+    (λ w. (omega arith, rw (w .1) (l .loop .inv .1), λ col L S. rw (w .1) (sweeping-same G L S (w .0 .left) (l .loop .inv .2 col L S))))
+    (c .if1 .came)
 
 returns : tie.Need-returns Inv-loop μ-loop
+unfolding marked
 returns c =
     let l = c .before in
     let s = l .before .before .before .before .before .before in
@@ -89,15 +103,15 @@ reach-spec =
     Inv-loop
     μ-loop
     (λ c κs. search needs)
-    (λ c κs. search needs)
+    (λ c. search needs)
     loop-holds
+    (λ c. search needs)
     (λ c. search needs)
     (λ c. search needs)
     (λ c κs. search needs)
     part-requires
-    with-places-requires
+    mark-places-requires
     (λ c. search needs)
-    (λ c κs. search needs)
-    loop-less
+    (λ c. omega arith)
     loop-again
     returns)
