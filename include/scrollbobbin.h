@@ -11,7 +11,7 @@
  * The register is no object of this library: it is a size and six lists of 16-bit numbers, which
  * the caller owns and lends at each call. The library keeps nothing from call to call, has no
  * global data, allocates no memory, and tells every fault by its reply. So any number of threads
- * may call it at once, each on lists of its own. A call takes less than 20 KiB of stack.
+ * may call it at once, each on lists of its own. A call takes at most 8 KiB of stack.
  *
  * Link with libcabi.a, which is for x86-64 Linux and needs nothing but the C library.
  *

@@ -78,6 +78,14 @@ pub record Grown (E : Pattern) (m : ℕ) (key : ℕ → ℕ) (n : ℕ) (ps qs : 
 pub snoc-old : (l : List ℕ) (x n : ℕ) → length l ≡ n → Same n (at l) (at (l ++ (x ∷ [])))
 snoc-old l x n e i h = sym (List·getD-append l (x ∷ []) 0 i (omega arith))
 
+-- What holds of each number holds of each then, where it holds of the one more.
+pub snoc-each : (A : ℕ → Type 0) (l : List ℕ) (x n : ℕ) → length l ≡ n → ((i : ℕ) → i < n → A (at l i)) → A x → (i : ℕ) → i < suc n → A (at (l ++ (x ∷ [])) i)
+snoc-each A l x n e each a i h = go (last-or n i h)
+  where
+    go : (i < n) ⊎ (i ≡ n) → A (at (l ++ (x ∷ [])) i)
+    go (inl u) = subst A (snoc-old l x n e i u) (each i u)
+    go (inr z) = subst A (sym (ap (at (l ++ (x ∷ []))) z ∙ getD-at l x [] 0 n e)) a
+
 module _ {E : Pattern} {m : ℕ} {key : ℕ → ℕ} where
   pub grown-none : Grown E m key 0 [] []
   grown-none = record { rows = refl; cols = refl; peel = peel-none; least = λ i h. absurd (omega arith) }

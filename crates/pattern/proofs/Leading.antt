@@ -59,7 +59,7 @@ greedy-leads {E} {m} {key} {row} {col} b d g = record { sound = s; leads = λ ro
             free =
                 next-available b t (peel-part (f .number) (omega (arith, f .in-range)) (g .peel)) (f .number) (f .in-range)
                 (λ j l e. apart j l (t .cols .once j (f .number) (small j l) (f .in-range) (sym (before j l) ∙ e)))
-                (λ j l. (j, l, before j l))
+                (λ j l e. (j, l, before j l))
 
 -- A sound order is greedy for its own places.
 pub own-greedy : {E : Pattern} {m : ℕ} {row col : ℕ → ℕ} → Rows-below E m → Sound E m row col → Greedy E m (place col m) row col

@@ -16,6 +16,7 @@ pub mod Greatest
 pub mod Verdicts
 pub mod Growing
 pub mod OldPeel
+pub mod Window
 pub mod Peeled
 pub mod Reaching
 pub mod Numbers

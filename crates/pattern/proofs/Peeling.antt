@@ -1,6 +1,6 @@
 -- Peels: a sound order is a peel of full length and the other way round; every full choice takes a peel's pairs; and while a
 -- sound order exists no peel is stuck. Rests on Pairing.antt.
-use mathlib.Core.Logic.{_⊎_, inl, inr}
+use mathlib.Core.Logic.{_⊎_, inl, inr, Dec·and}
 use mathlib.Core.Path.{_≡_, sym, ap, _∙_, subst}
 use Prim.Native.Nat.{ℕ, suc, _≤_, _<_}
 use native.Mathlib.Decide.{ℕ-discrete}
@@ -11,8 +11,8 @@ use Rattle.pattern.specs.Pattern.{Pattern, Rows-below}
 use Rattle.pattern.specs.Peel.{Peel, Available}
 use Rattle.pattern.specs.Places.{Among, Outside, Same, place}
 use Rattle.pattern.proofs.Search.{Found, None, find, strong, outside-dec, not-outside}
-use Rattle.pattern.proofs.Once.{once-part, onto, too-many}
-use Rattle.pattern.proofs.Finding.{place-is}
+use Rattle.pattern.proofs.Once.{once-part, onto}
+use Rattle.pattern.proofs.Finding.{one-outside}
 use Rattle.pattern.proofs.Pairing.{partner, partner-at, col-place, order-choice}
 
 -- ---- A sound order is a peel of full length
@@ -83,8 +83,10 @@ module _ {E : Pattern} {m n : ℕ} {row col row′ col′ : ℕ → ℕ} (b : Ro
   same-pairs : (i : ℕ) → i < n → partner m row′ col′ (col i) ≡ row i
   same-pairs = one-pairing k (order-choice s)
 
-  -- The first column of the sound order that is not in the peel is available, with the row that the order pairs with it.
-  pub next-available : (t : ℕ) → t < m → Outside col n (col′ t) → ((j : ℕ) → j < t → Among col n (col′ j)) → Available E m n row col (col′ t) (row′ t)
+  -- A column of the sound order that is not in the peel is available, with the row that the order pairs with it, where the columns
+  -- that the order pairs with its other rows are in the peel.
+  pub next-available : (t : ℕ) → t < m → Outside col n (col′ t) → ((j : ℕ) → j < t → E (row′ j) (col′ t) → Among col n (col′ j))
+      → Available E m n row col (col′ t) (row′ t)
   next-available t l left taken =
       record {
         col-below = s .cols .below t l;
@@ -92,34 +94,47 @@ module _ {E : Pattern} {m n : ℕ} {row col row′ col′ : ℕ → ℕ} (b : Ro
         row-below = s .rows .below t l;
         row-left = λ i h e. left i h (order-choice s .rows .once (col i) (col′ t) (k .cols .below i h) (s .cols .below t l) (same-pairs i h ∙ e ∙ sym (partner-at s t l)));
         present = s .paired t l;
-        only = λ r e o. which r o (sound-peel b s .passed t l r e);
+        only = λ r e o. which r e o (sound-peel b s .passed t l r e);
       }
     where
       earlier : (r j : ℕ) → Outside row n r → j < t → row′ j ≡ r → Among col n (col′ j) → ⊥
       earlier r j o h e a = o (a .0) (a .1) (sym (same-pairs (a .0) (a .1)) ∙ ap (partner m row′ col′) (a .2) ∙ partner-at s j (omega arith) ∙ e)
 
-      which : (r : ℕ) → Outside row n r → Among row′ (suc t) r → r ≡ row′ t
-      which r o a = settle (ℕ-discrete (a .0) t)
+      which : (r : ℕ) → E r (col′ t) → Outside row n r → Among row′ (suc t) r → r ≡ row′ t
+      which r e o a = settle (ℕ-discrete (a .0) t)
         where
           settle : Dec (a .0 ≡ t) → r ≡ row′ t
-          settle (yes e) = sym (a .2) ∙ ap row′ e
-          settle (no d) = absurd (earlier r (a .0) o (omega (arith, a .1)) (a .2) (taken (a .0) (omega (arith, a .1))))
+          settle (yes z) = sym (a .2) ∙ ap row′ z
+          settle (no d) =
+              let h : a .0 < t = omega (arith, a .1) in
+              absurd (earlier r (a .0) o h (a .2) (taken (a .0) h (subst (λ (x : ℕ). E x (col′ t)) (sym (a .2)) e)))
 
-  -- A peel of fewer than `m` places can go on.
-  pub never-stuck : n < m → (y : ℕ) × (r : ℕ) × Available E m n row col y r
-  never-stuck l = start (find (λ t. Outside col n (col′ t)) (λ t. outside-dec col n (col′ t)) m)
+  -- Let `K` be columns of which each has only rows that the order pairs with columns of `K`. While one of them is not in the
+  -- peel, one is available.
+  pub never-stuck-in : (K : ℕ → Type 0) → ((y : ℕ) → Dec (K y))
+      → ((t j : ℕ) → t < m → j < m → K (col′ t) → E (row′ j) (col′ t) → K (col′ j))
+      → (y : ℕ) → y < m → K y → Outside col n y → (z : ℕ) × (r : ℕ) × K z × Available E m n row col z r
+  never-stuck-in K d closed y h u o = start (find Left left-dec m)
     where
-      -- all the order's columns in fewer places: too many
-      full : None (λ t. Outside col n (col′ t)) m → ⊥
-      full h = too-many l (record { below = λ t ht. spot t ht .0; once = λ t u ht hu e. s .cols .once t u ht hu (sym (spot t ht .1) ∙ ap col e ∙ spot u hu .1) })
-        where
-          spot : (t : ℕ) → t < m → (place col n (col′ t) < n) × (col (place col n (col′ t)) ≡ col′ t)
-          spot t ht = place-is col n (col′ t) (not-outside col n (col′ t) (h t ht))
+      Left : ℕ → Type 0
+      Left t = K (col′ t) × Outside col n (col′ t)
 
-      start : Found (λ t. Outside col n (col′ t)) m ⊎ None (λ t. Outside col n (col′ t)) m → (y : ℕ) × (r : ℕ) × Available E m n row col y r
-      start (inr h) = absurd (full h)
+      left-dec : (t : ℕ) → Dec (Left t)
+      left-dec t = Dec·and (d (col′ t)) (outside-dec col n (col′ t))
+
+      start : Found Left m ⊎ None Left m → (z : ℕ) × (r : ℕ) × K z × Available E m n row col z r
+      start (inr none) = let q = col-place s y h in absurd (none (place col′ m y) (q .0) (subst K (sym (q .1)) u, subst (Outside col n) (sym (q .1)) o))
       start (inl f) = (
         col′ (f .number),
         row′ (f .number),
-        next-available (f .number) (f .in-range) (f .is-so) (λ j h. not-outside col n (col′ j) (f .none-before j h)),
+        f .is-so .0,
+        next-available (f .number) (f .in-range) (f .is-so .1)
+            (λ j l e. not-outside col n (col′ j) (λ w. f .none-before j l (closed (f .number) j (f .in-range) (omega (arith, f .in-range)) (f .is-so .0) e, w))),
       )
+
+  -- A peel of fewer than `m` places can go on.
+  pub never-stuck : n < m → (y : ℕ) × (r : ℕ) × Available E m n row col y r
+  never-stuck l =
+      let a = one-outside {g = col} l (s .cols) in
+      let f = never-stuck-in (λ y. Unit {0}) (λ y. yes tt) (λ t j h u v e. tt) (col′ (a .0)) (s .cols .below (a .0) (a .1)) tt (a .2) in
+      (f .0, f .1, f .3)

@@ -1,7 +1,7 @@
 -- A column is exchanged and two new rows are paired with reached columns: two full choices are left, and so no order is sound.
 -- Rests on SomeChoice.antt and Peeling.antt.
 use mathlib.Core.Logic.{_≢_}
-use mathlib.Core.Path.{_≡_, sym, _∙_}
+use mathlib.Core.Path.{sym, _∙_}
 use Prim.Native.Nat.{ℕ, _<_}
 use Rattle.pattern.specs.Order.{Sound, Triangular, Paired}
 use Rattle.pattern.specs.Pattern.{Pattern, Rows-below, Spiked}

@@ -1,26 +1,44 @@
--- Where a walk through all columns ends, the row listing lists the same entries exactly when each cursor is at its row's end.
--- Rests on Listings.antt.
+-- A row listing is well formed and lists the same entries exactly when it is the columns turned; and where a walk through all
+-- columns ends, exactly when each cursor is at its row's end. Rests on Listings.antt and Passing.antt.
 use mathlib.Core.List.{List}
-use mathlib.Core.Path.{_≡_, refl, sym, ap, _∙_}
+use mathlib.Core.Path.{_≡_, sym, ap, _∙_}
 use Prim.Native.Nat.{ℕ, _+_, _<_}
 use native.Mathlib.Omega.{arith}
 use lib.ListN.{length}
+use Rattle.pattern.specs.Pattern.{has, column}
 use Rattle.pattern.specs.Places.{at}
 use Rattle.pattern.specs.Turned.{row-of, Same-entries}
+use Rattle.pattern.proofs.Numbers.{numbers-rise}
 use Rattle.pattern.proofs.Turning.{rows-same, same-rows}
-use Rattle.register.specs.Listing.{between, parts, Good}
-use Rattle.register.specs.Walk.{Walked}
+use Rattle.register.specs.Listing.{between, parts, Room, Starts, Listing, Good}
+use Rattle.register.specs.Walk.{Rows-turned}
 use Rattle.register.proofs.Between.{between-length}
-use Rattle.register.proofs.Listings.{part-is, good-columns, good-column, good-within}
+use Rattle.register.proofs.Listings.{part-is, part-within, parts-columns, good-columns}
+use Rattle.register.proofs.Passing.{Passed}
 
-module _ {m : ℕ} {cs cr rs rc next : List ℕ} (G : Good m cs cr) (H : Good m rs rc)
-    (W : Walked m (at rs) rc (λ r. row-of (parts m cs cr) r m) next) where
-  pub ends-same : ((r : ℕ) → r < m → at next r ≡ at rs (r + 1)) → Same-entries (parts m cs cr) (parts m rs rc)
-  ends-same ends =
-      rows-same (good-columns G) (good-columns H)
-      (λ r h. part-is m rs rc r h ∙ ap (λ (b : ℕ). between (at rs r) b rc) (sym (ends r h)) ∙ W .passed r h)
+module _ {m : ℕ} {cs cr : List ℕ} (rs rc : List ℕ) (G : Good m cs cr) where
+  pub turned-formed : Starts m rs → Rows-turned m (parts m cs cr) rs rc → Listing m rs rc
+  turned-formed S all =
+      record { starts-right = S; rise = λ r h. rw (all r h) (numbers-rise (λ c. has (column (parts m cs cr) c) r) m) }
 
-  pub same-ends : Same-entries (parts m cs cr) (parts m rs rc) → (r : ℕ) → r < m → at next r ≡ at rs (r + 1)
-  same-ends same r h =
-      let all : between (at rs r) (at rs (r + 1)) rc ≡ row-of (parts m cs cr) r m = good-column H r h refl ∙ same-rows (good-columns G) (good-columns H) same r h in
-      omega (arith, W .cursors .stand r h, ap length all, between-length (at rs r) (at rs (r + 1)) rc (good-within H r h .in-list), good-within H r h)
+  pub turned-agrees : Starts m rs → Rows-turned m (parts m cs cr) rs rc → Same-entries (parts m cs cr) (parts m rs rc)
+  turned-agrees S all =
+      rows-same (good-columns G) (parts-columns m rs rc (turned-formed S all)) (λ r h. part-is m rs rc r h ∙ all r h)
+
+  pub agrees-turned : Listing m rs rc → Same-entries (parts m cs cr) (parts m rs rc) → Rows-turned m (parts m cs cr) rs rc
+  agrees-turned L same r h = sym (part-is m rs rc r h) ∙ same-rows (good-columns G) (parts-columns m rs rc L) same r h
+
+module _ {m : ℕ} (P : List (List ℕ)) {rs rc next : List ℕ} (R : Room m rs rc) (S : Starts m rs)
+    (W : Passed m (at rs) rc (λ r. row-of P r m) next) where
+  pub ends-turned : ((r : ℕ) → r < m → at next r ≡ at rs (r + 1)) → Rows-turned m P rs rc
+  ends-turned ends r h = ap (λ (b : ℕ). between (at rs r) b rc) (sym (ends r h)) ∙ W .passed r h
+
+  pub turned-ends : Rows-turned m P rs rc → (r : ℕ) → r < m → at next r ≡ at rs (r + 1)
+  turned-ends all r h =
+      omega (
+        arith,
+        W .cursors .stand r h,
+        S .never-fall r h,
+        ap length (all r h),
+        between-length (at rs r) (at rs (r + 1)) rc (part-within R S r h .in-list),
+      )

@@ -21,13 +21,13 @@ module _ {P Q : Type 0} where
   pub shown : {r : Bool} → Told r P Q → not r ≡ false → P
   shown {r} s e = s .yes (not-false r e)
 
--- Where what the answer `false` would rule out is known, the answer is `true`.
-pub surely : {P Q : Type 0} {r : Bool} → Told r P (¬ Q) → Q → P
-surely {P} {Q} {r} t q = go r refl
-  where
-    go : (b : Bool) → r ≡ b → P
-    go true e = t .yes e
-    go false e = absurd (t .no e q)
+  -- The opposite answer.
+  pub told-not : {r : Bool} → Told r P Q → Told (not r) Q P
+  told-not s = record { yes = refuted s; no = shown s }
+
+-- An answer in other words.
+pub told-as : {P P′ Q Q′ : Type 0} {r : Bool} → (P → P′) → (Q → Q′) → Told r P Q → Told r P′ Q′
+told-as f g s = record { yes = λ e. f (s .yes e); no = λ e. g (s .no e) }
 
 -- An answer about what comes to the same.
 pub says-as : {P Q : Type 0} {r : Bool} → (P → Q) → (Q → P) → Says r P → Says r Q

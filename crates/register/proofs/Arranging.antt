@@ -8,20 +8,14 @@ use native.Mathlib.Decide.{ℕ-discrete, decLt}
 use native.Mathlib.Omega.{arith}
 use lib.ListN.{length, set, take, length-set}
 use lib.Seq.{getD-set-same, getD-set-other, getD-take, length-take-le}
-use Rattle.pattern.specs.Order.{Sound}
-use Rattle.pattern.specs.Pattern.{column, Entry}
 use Rattle.pattern.specs.Places.{at, Once, place}
-use Rattle.pattern.specs.Series.{greatest}
 use Rattle.pattern.specs.Verdict.{to-last}
-use Rattle.pattern.proofs.Finding.{place-of, place-at, place-once}
+use Rattle.pattern.proofs.Finding.{place-at, place-once}
 use Rattle.pattern.proofs.ToLast.{From, to-last-length, to-last-from}
 use Rattle.register.specs.Held.{over}
-use Rattle.register.specs.Listing.{part, parts, Good}
 use Rattle.register.specs.Order.{Placed}
 use Rattle.register.specs.Walk.{Kept}
 use Rattle.register.proofs.Holding.{over-is}
-use Rattle.register.proofs.Listings.{part-is, good-columns}
-use Rattle.register.proofs.Orders.{sound-topped}
 use Rattle.register.proofs.Turns.{kept-all, kept-set}
 
 -- ---- Numbers at their places

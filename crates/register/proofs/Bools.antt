@@ -15,6 +15,10 @@ pub unmarked-none : (k : ℕ) → k < max-mark → marked unmarked k ≡ false
 unfolding flagged marked unmarked
 unmarked-none k h = getD-replicate max-mark k false false h
 
+pub unmarked-flags : (k : ℕ) → k < max-mark → flagged (unmarked .marks) k ≡ false
+unfolding marked
+unmarked-flags = unmarked-none
+
 pub unmarked-long : length (unmarked .marks) ≡ max-mark
 unfolding unmarked
 unmarked-long = length-replicate max-mark false

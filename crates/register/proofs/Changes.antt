@@ -7,27 +7,21 @@ use native.Mathlib.Omega.{arith}
 use lib.ListN.{length, take}
 use Rattle.pattern.specs.Choice.{No-choice}
 use Rattle.pattern.specs.Flat.{start-of}
-use Rattle.pattern.specs.Order.{Sound}
-use Rattle.pattern.specs.Pattern.{Entry}
 use Rattle.pattern.specs.Places.{at, place}
 use Rattle.pattern.specs.Turned.{turned}
-use Rattle.pattern.specs.Verdict.{size, c-place, c-row, spiked-columns, Spike, Verdict, Singular, Permuted, Elimination, to-last, Is-permuted, Is-elimination, Judged}
-use Rattle.pattern.proofs.Clearing.{spiked-columns-rise}
-use Rattle.pattern.proofs.Turning.{Columns}
+use Rattle.pattern.specs.Verdict.{size, c-place, c-row, Spike, Verdict, Singular, Permuted, Elimination, to-last, Is-permuted, Is-elimination, Judged}
 use Rattle.register.specs.Checks.{Call, Fits, New-fits}
 use Rattle.register.specs.Held.{over, Held}
 use Rattle.register.specs.Judge.{Judgeable, Tells, Judges}
 use Rattle.register.specs.Lent.{Lists, lists, columns}
-use Rattle.register.specs.Listing.{parts, Good}
 use Rattle.register.specs.Order.{Placed}
 use Rattle.register.specs.Replace.{asked, outcome, Answered}
 use Rattle.register.specs.Reply.{Reply, singular, permuted, elimination}
 use Rattle.register.specs.Store.{joined, exchanged}
 use Rattle.register.specs.declared.Judgment.{Judgment}
 use Rattle.register.specs.declared.Judgment.the-variants as judgment
-use Rattle.register.proofs.Calls.{call-columns, call-size}
+use Rattle.register.proofs.Calls.{call-size}
 use Rattle.register.proofs.Spikes.{call-place, call-spiked, call-cleared, spiked-fits, cleared-fits}
-use Rattle.register.proofs.Readback.{held-parts, held-good}
 
 -- ---- What a judgment tells
 

@@ -4,10 +4,13 @@ pub mod Spans
 pub mod Between
 pub mod Rises
 pub mod Listings
+pub mod Falling
 pub mod Walks
 pub mod Stores
+pub mod Passing
 pub mod Agreement
 pub mod Orders
+pub mod Tops
 pub mod Holding
 pub mod Readback
 pub mod Holdings
@@ -31,7 +34,10 @@ pub mod Sweeping
 pub mod Arranging
 pub mod PeelCounts
 pub mod NewRows
+pub mod SpikedParts
 pub mod Peels
+pub mod Windows
+pub mod Striking
 pub mod Soundness
 pub mod Starting
 pub mod Calls

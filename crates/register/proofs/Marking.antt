@@ -1,6 +1,5 @@
--- Marks set one by one: where the numbers of a list are marked, or the places of these. Rests on specs/Sets.antt and
--- specs/Reach.antt.
-use mathlib.Core.Bool.{Bool, false}
+-- Marks set one by one: the places of the numbers of a list are marked. Rests on specs/Sets.antt and specs/Reach.antt.
+use mathlib.Core.Bool.{Bool}
 use mathlib.Core.List.{List, [], _∷_, _++_}
 use mathlib.Core.Logic.{_≢_, _⊎_, inl, inr, ⊎-elim, _↔_}
 use mathlib.Core.Path.{_≡_, refl, sym, ap, _∙_, subst}
@@ -13,10 +12,10 @@ use lib.ListN.{length, take}
 use lib.Seq.{take-suc, take-all}
 use Rattle.pattern.specs.Pattern.{has}
 use Rattle.pattern.specs.Places.{at}
-use Rattle.pattern.proofs.Tests.{T-true, T-false, T-dec, has-append, has-left, has-right, has-here, has-cases}
+use Rattle.pattern.proofs.Tests.{has-append, has-left, has-right, has-here, has-cases}
 use Rattle.register.specs.Limits.{max-mark}
 use Rattle.register.specs.Reach.{With-places}
-use Rattle.register.specs.Sets.{With, Of-list}
+use Rattle.register.specs.Sets.{With}
 
 -- A number of the first places of a list, and of one place more.
 pub has-more : (l : List ℕ) (k x : ℕ) → k < length l → T (has (take (k + 1) l) x) ↔ (T (has (take k l) x) ⊎ (at l k ≡ x))
@@ -62,15 +61,3 @@ module _ (f : ℕ → ℕ) (l : List ℕ) {p : ℕ → Bool} where
 
   pub marking-all : {q : ℕ → Bool} (k : ℕ) → length l ≡ k → With-places p q f (take k l) → With-places p q f l
   marking-all {q} k e W = rw (take-all k l (omega arith)) at W
-
--- Where none was marked, the numbers of the list are.
-pub marked-list : {p q : ℕ → Bool} {l : List ℕ} → ((k : ℕ) → k < max-mark → p k ≡ false) → With-places p q (λ x. x) l → Of-list q l
-marked-list {p} {q} {l} none W k h = go (T-dec (has l k))
-  where
-    there : T (p k) ⊎ ((x : ℕ) × T (has l x) × (x ≡ k)) → T (has l k)
-    there (inl t) = absurd (subst T (none k h) t)
-    there (inr a) = subst (λ (x : ℕ). T (has l x)) (a .2) (a .1)
-
-    go : Dec (T (has l k)) → q k ≡ has l k
-    go (yes t) = T-true (q k) (W .are k h .1 (inr (k, t, refl))) ∙ sym (T-true (has l k) t)
-    go (no n) = T-false (q k) (λ t. n (there (W .are k h .0 t))) ∙ sym (T-false (has l k) n)

@@ -4,7 +4,7 @@ use mathlib.Core.List.{List}
 use mathlib.Core.Logic.{_≢_, _↔_, _⊎_, inl, inr, ⊎-elim}
 use mathlib.Core.Path.{_≡_, sym, ap, _∙_, subst}
 use Prim.Native.Nat.{ℕ, _+_, _≤_, _<_}
-use native.Mathlib.Decide.{ℕ-discrete, decLt}
+use native.Mathlib.Decide.{ℕ-discrete}
 use native.Mathlib.Omega.{arith}
 use lib.Dec.{T, eqb, eqb→eq}
 use lib.ListN.{length, set, take, length-set}
@@ -13,8 +13,12 @@ use Rattle.pattern.specs.Pattern.{has}
 use Rattle.pattern.specs.Places.{at}
 use Rattle.pattern.proofs.Tests.{true-T, T-true, T-false, eq-eqb}
 use Rattle.register.specs.Limits.{max-size}
-use Rattle.register.specs.Peel.{New-told, Flagged}
+use Rattle.register.specs.Peel.{Flagged}
 use Rattle.register.proofs.Marking.{has-more}
+
+-- Of the numbers below `m` that have no place those of the list `new`, and no others, are told by `max-size + 1`.
+abbrev pub New-told : (m : ℕ) (new places : List ℕ) → Type 0
+New-told m new places = (x : ℕ) → x < m → max-size ≤ at places x → (at places x ≡ max-size + 1) ↔ T (has new x)
 
 -- What stands for `x`, which has no place, when the numbers of `l` have been gone through.
 abbrev Stands : (l now : List ℕ) → ℕ → Type 0
@@ -24,12 +28,11 @@ Stands l now x = ((at now x ≡ max-size) × ¬ T (has l x)) ⊎ ((at now x ≡ 
 pub record Flagging (new places : List ℕ) (k : ℕ) (now : List ℕ) : Type 0 where
   pub long : length now ≡ max-size
   pub kept : (x : ℕ) → x < max-size → at places x < max-size → at now x ≡ at places x
-  pub stands : (x : ℕ) → x < max-size → max-size ≤ at places x → Stands (take k new) now x
+  pub stands : (x : ℕ) → x < max-size → at places x ≡ max-size → Stands (take k new) now x
 
 module _ {new places : List ℕ} where
-  pub flagging-none : length places ≡ max-size → ((x : ℕ) → x < max-size → at places x ≤ max-size) → Flagging new places 0 places
-  flagging-none long low =
-      record { long = long; kept = λ x h u. omega arith; stands = λ x h u. inl (omega (arith, low x h), λ t. t) }
+  pub flagging-none : length places ≡ max-size → Flagging new places 0 places
+  flagging-none long = record { long = long; kept = λ x h u. omega arith; stands = λ x h u. inl (u, λ t. t) }
 
   module _ {k x : ℕ} {now : List ℕ} (h : k < length new) (ex : x ≡ at new k) (low : x < max-size) (F : Flagging new places k now) where
     -- Any other number stands in the longer part where it stands in the shorter.
@@ -49,7 +52,7 @@ module _ {new places : List ℕ} where
           stands = λ y b u. go y b u (ℕ-discrete y x);
         }
       where
-        go : (y : ℕ) → y < max-size → max-size ≤ at places y → Dec (y ≡ x) → Stands (take (k + 1) new) (set now x (max-size + 1)) y
+        go : (y : ℕ) → y < max-size → at places y ≡ max-size → Dec (y ≡ x) → Stands (take (k + 1) new) (set now x (max-size + 1)) y
         go y b u (yes z) =
             subst (Stands (take (k + 1) new) (set now x (max-size + 1))) (sym z) (inr (getD-set-same now x (max-size + 1) 0 (omega (arith, F .long)), here))
         go y b u (no z) = other (set now x (max-size + 1)) y z (getD-set-other now x y (max-size + 1) 0 z) (F .stands y b u)
@@ -62,7 +65,7 @@ module _ {new places : List ℕ} where
         told y z (inl a) = absurd (n (sym (ap (at now) z) ∙ a .0))
         told y z (inr a) = inr (a .0, has-more new k y h .1 (inl (a .1)))
 
-        go : (y : ℕ) → y < max-size → max-size ≤ at places y → Dec (y ≡ x) → Stands (take (k + 1) new) now y
+        go : (y : ℕ) → y < max-size → at places y ≡ max-size → Dec (y ≡ x) → Stands (take (k + 1) new) now y
         go y b u (yes z) = told y z (F .stands y b u)
         go y b u (no z) = other now y z (omega arith) (F .stands y b u)
 
@@ -72,25 +75,18 @@ module _ {new places : List ℕ} where
         long = F .long;
         kept = F .kept;
         left = λ x h u. ⊎-elim (λ a. omega (arith, a .0)) (λ a. omega (arith, a .0)) (F .stands x h u);
-        told = λ x h u. tell x (whole x (F .stands x h (unplaced x h u)));
+        told = λ x h u. tell x (whole x (F .stands x h u));
       }
     where
       whole : (x : ℕ) → Stands (take k new) now x → Stands new now x
       whole x s = rw (take-all k new (omega arith)) at s
-
-      unplaced : (x : ℕ) → x < max-size → max-size ≤ at now x → max-size ≤ at places x
-      unplaced x h u = go (decLt (at places x) max-size)
-        where
-          go : Dec (at places x < max-size) → max-size ≤ at places x
-          go (yes d) = absurd (omega (arith, F .kept x h d))
-          go (no d) = omega arith
 
       tell : (x : ℕ) → Stands new now x → (at now x ≡ max-size + 1) ↔ T (has new x)
       tell x (inl a) = (λ e. absurd (omega (arith, a .0)), λ t. absurd (a .1 t))
       tell x (inr a) = (λ e. a .1, λ t. a .0)
 
 -- The test that tells them.
-pub new-told : (new places : List ℕ) (x : ℕ) → New-told new places → x < max-size → max-size ≤ at places x → (b : Bool) → eqb (at places x) (max-size + 1) ≡ b → has new x ≡ b
+pub new-told : {m : ℕ} (new places : List ℕ) (x : ℕ) → New-told m new places → x < m → max-size ≤ at places x → (b : Bool) → eqb (at places x) (max-size + 1) ≡ b → has new x ≡ b
 new-told new places x N h u true e = T-true (has new x) (N x h u .0 (eqb→eq (at places x) (max-size + 1) (true-T e)))
 new-told new places x N h u false e =
     T-false (has new x) (λ t. subst T e (eq-eqb (at places x) (max-size + 1) (N x h u .1 t)))

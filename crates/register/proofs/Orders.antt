@@ -1,7 +1,7 @@
 -- Places of an order's rows, entered one by one, and what the columns' greatest places say of the order.
 -- Rests on specs/Order.antt and `pattern`.
 use mathlib.Core.List.{List}
-use mathlib.Core.Logic.{_≢_, ⊎-elim}
+use mathlib.Core.Logic.{⊎-elim}
 use mathlib.Core.Path.{_≡_, sym, ap, _∙_}
 use Prim.Native.Nat.{ℕ, _+_, _≤_, _<_, max}
 use native.Mathlib.Decide.{ℕ-discrete, decLt}
@@ -16,7 +16,7 @@ use Rattle.pattern.specs.Rising.{Rising}
 use Rattle.pattern.specs.Series.{greatest}
 use Rattle.pattern.specs.Verdict.{top-place}
 use Rattle.pattern.proofs.Finding.{place-at, place-of}
-use Rattle.pattern.proofs.Greatest.{greatest-high, greatest-some, greatest-more, greatest-low, greatest-same}
+use Rattle.pattern.proofs.Greatest.{greatest-high, greatest-some, greatest-more, greatest-same}
 use Rattle.pattern.proofs.Once.{once-none, once-more}
 use Rattle.pattern.proofs.Rises.{rising-below}
 use Rattle.pattern.proofs.Search.{last-or}
@@ -68,13 +68,13 @@ module _ {m : ℕ} (f : ℕ → ℕ) where
   pub entered-below : {n k : ℕ} {places : List ℕ} → Once f n k → Entered m f n places → Entered k f n places
   entered-below o E = record { long = E .long; once = o; there = E .there; back = E .back }
 
+  -- The list has the number of each place.
+  pub there-placed : {places : List ℕ} → length places ≡ max-size → Once f m m → ((t : ℕ) → t < m → at places (f t) ≡ t) → Placed m f places
+  there-placed {places} long o there =
+      record { long = long; once = o; stand = λ x h. let p = place-of o x h in ap (at places) (sym (p .1)) ∙ there (place f m x) (p .0) }
+
   pub entered-all : {places : List ℕ} → Entered m f m places → Placed m f places
-  entered-all {places} E =
-      record {
-        long = E .long;
-        once = E .once;
-        stand = λ x h. let p = place-of (E .once) x h in ap (at places) (sym (p .1)) ∙ E .there (place f m x) (p .0);
-      }
+  entered-all E = there-placed (E .long) (E .once) (E .there)
 
 -- All numbers of an order have been entered.
 pub entered-placed : {m k : ℕ} {f : ℕ → ℕ} {places : List ℕ} → Once f m m → Entered k f m places → Placed m f places
@@ -140,9 +140,6 @@ module _ {m : ℕ} {P : List (List ℕ)} {row : ℕ → ℕ} {places : List ℕ}
 pub greatest-on : (f : ℕ → ℕ) (l : List ℕ) (k : ℕ) → k < length l → greatest f (take (k + 1) l) ≡ max (greatest f (take k l)) (f (at l k))
 greatest-on f l k h = ap (λ (n : ℕ). greatest f (take n l)) (add-one k) ∙ ap (greatest f) (take-suc l k 0 h) ∙ greatest-more f (take k l) (at l k)
 
--- Of rows in range, the greatest place in the list is that of the order, and at most the size.
+-- Of rows in range, the greatest place in the list is that of the order.
 pub top-is : {m : ℕ} {row : ℕ → ℕ} {places l : List ℕ} → Placed m row places → Rising m l → greatest (at places) l ≡ top-place row m l
 top-is {m} {row} {places} {l} L R = greatest-same (at places) (place row m) l (λ x u. L .stand x (rising-below R x u))
-
-pub top-few : {m : ℕ} {row : ℕ → ℕ} {l : List ℕ} → Once row m m → Rising m l → top-place row m l ≤ m
-top-few {m} {row} {l} o R = greatest-low (place row m) l m (λ x u. omega (arith, place-of o x (rising-below R x u) .0))

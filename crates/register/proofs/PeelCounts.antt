@@ -16,7 +16,7 @@ use Rattle.pattern.proofs.Search.{None, Found, find, last-or}
 use Rattle.pattern.proofs.Tallies.{tally-next, tally-more, tally-zero, tally-same, tally-one}
 use Rattle.pattern.proofs.Tests.{T-true, T-false, has-among, among-has}
 use Rattle.register.specs.Limits.{max-size}
-use Rattle.register.specs.Peel.{unplaced, No-one, Next-one, Strikes, Struck}
+use Rattle.register.specs.Peel.{unplaced, Searched, Hit, Strikes, Struck}
 use Rattle.register.specs.Sets.{one}
 use Rattle.register.proofs.Rises.{rising-once}
 
@@ -74,44 +74,44 @@ module _ (places : List ℕ) (x n : ℕ) (h : x < length places) (e : max-size �
 -- ---- Counts that are lowered
 
 -- The search goes on from `from`.
-pub no-one-on : {m t from : ℕ} (counts : List ℕ) → No-one counts from → Next-one m counts from t → No-one counts t
-no-one-on {from = from} counts N F u h = go (decLt u from)
+pub searched-on : {counts : List ℕ} {p from t : ℕ} → Searched counts p from → Searched counts from t → Searched counts p t
+searched-on {counts} {p} {from} {t} N F = record { after = omega (arith, N .after, F .after); none = λ u h b. go u h b (decLt u from) }
   where
-    go : Dec (u < from) → at counts u ≢ 1
-    go (yes b) = N u b
-    go (no b) = F .none u (omega arith) h
+    go : (u : ℕ) → p ≤ u → u < t → Dec (u < from) → at counts u ≢ 1
+    go u h b (yes d) = N .none u h d
+    go u h b (no d) = F .none u (omega arith) b
 
 -- One count changes, and does not become one before `r`.
-pub no-one-set : (counts : List ℕ) (t v r : ℕ) → t < length counts → No-one counts r → (t < r → v ≢ 1) → No-one (set counts t v) r
-no-one-set counts t v r h N f u b = go (ℕ-discrete u t)
+pub searched-set : {counts : List ℕ} {p from : ℕ} (t v r : ℕ) → t < length counts → p ≤ r → r ≤ from → (t < r → v ≢ 1) → Searched counts p from → Searched (set counts t v) p r
+searched-set {counts} {p} t v r h l b f N = record { after = l; none = λ u k d. go u k d (ℕ-discrete u t) }
   where
-    go : Dec (u ≡ t) → at (set counts t v) u ≢ 1
-    go (yes e) z = f (omega arith) (sym (getD-set-same counts t v 0 h) ∙ ap (at (set counts t v)) (sym e) ∙ z)
-    go (no e) z = N u b (sym (getD-set-other counts t u v 0 e) ∙ z)
+    go : (u : ℕ) → p ≤ u → u < r → Dec (u ≡ t) → at (set counts t v) u ≢ 1
+    go u k d (yes e) z = f (omega arith) (sym (getD-set-same counts t v 0 h) ∙ ap (at (set counts t v)) (sym e) ∙ z)
+    go u k d (no e) z = N .none u k (omega arith) (sym (getD-set-other counts t u v 0 e) ∙ z)
 
-module _ {cols : List ℕ} {c : ℕ} {old counts : List ℕ} (S : Strikes cols c old counts) where
-  pub struck-none : Struck cols c old counts 0 counts
+module _ {cols : List ℕ} {c e : ℕ} {old counts : List ℕ} (S : Strikes cols c e old counts) where
+  pub struck-none : Struck cols c e old counts 0 counts
   struck-none = record { long = S .long; less = λ i h n. absurd (omega arith); others = λ t h. refl }
 
-  module _ {k : ℕ} {counts′ : List ℕ} (h : k < length cols) (K : Struck cols c old counts k counts′) where
+  module _ {k : ℕ} {counts′ : List ℕ} (h : k < length cols) (K : Struck cols c e old counts k counts′) where
     -- The count of the next column is still what it was.
-    next-same : at cols k ≢ c → at counts′ (at old (at cols k)) ≡ at counts (at old (at cols k))
-    next-same n = K .others (at old (at cols k)) (λ i u d e. omega (arith, S .apart i k (omega arith) h d n e))
+    next-same : Hit cols c e old k → at counts′ (at old (at cols k)) ≡ at counts (at old (at cols k))
+    next-same n = K .others (at old (at cols k)) (λ i u d z. omega (arith, S .apart i k (omega arith) h d n z))
 
-    pub next-some : at cols k ≢ c → 0 < at counts′ (at old (at cols k))
+    pub next-some : Hit cols c e old k → 0 < at counts′ (at old (at cols k))
     next-some n = omega (arith, next-same n, S .some k h n)
 
-    -- The next column is `c`.
-    pub struck-not : at cols k ≡ c → Struck cols c old counts (k + 1) counts′
-    struck-not e =
+    -- The next column is not struck.
+    pub struck-not : ¬ Hit cols c e old k → Struck cols c e old counts (k + 1) counts′
+    struck-not n =
         record {
           long = K .long;
-          less = λ i u d. ⊎-elim (λ b. K .less i b d) (λ z. absurd (d (ap (at cols) z ∙ e))) (last-or k i (omega arith));
+          less = λ i u d. ⊎-elim (λ b. K .less i b d) (λ z. absurd (n (subst (Hit cols c e old) z d))) (last-or k i (omega arith));
           others = λ t f. K .others t (λ i u. f i (omega arith));
         }
 
-    -- It is not.
-    pub struck-more : at cols k ≢ c → (p v : ℕ) → p ≡ at old (at cols k) → v ≡ at counts′ p - 1 → Struck cols c old counts (k + 1) (set counts′ p v)
+    -- It is.
+    pub struck-more : Hit cols c e old k → (p v : ℕ) → p ≡ at old (at cols k) → v ≡ at counts′ p - 1 → Struck cols c e old counts (k + 1) (set counts′ p v)
     struck-more n p v ep ev =
         record {
           long = length-set counts′ p v ∙ K .long;
@@ -119,7 +119,7 @@ module _ {cols : List ℕ} {c : ℕ} {old counts : List ℕ} (S : Strikes cols c
           others = λ t f. getD-set-other counts′ p t v 0 (λ z. f k (omega arith) n (sym (z ∙ ep))) ∙ K .others t (λ i u. f i (omega arith));
         }
       where
-        before : (i : ℕ) → i < k → at cols i ≢ c → at counts (at old (at cols i)) ≡ at (set counts′ p v) (at old (at cols i)) + 1
+        before : (i : ℕ) → i < k → Hit cols c e old i → at counts (at old (at cols i)) ≡ at (set counts′ p v) (at old (at cols i)) + 1
         before i b d =
             K .less i b d
             ∙ ap (λ (w : ℕ). w + 1)
@@ -128,7 +128,7 @@ module _ {cols : List ℕ} {c : ℕ} {old counts : List ℕ} (S : Strikes cols c
         here : (i : ℕ) → i ≡ k → at counts (at old (at cols i)) ≡ at (set counts′ p v) (at old (at cols i)) + 1
         here i z =
             let q : at old (at cols i) ≡ p = ap (λ (j : ℕ). at old (at cols j)) z ∙ sym ep in
-            let b : p < length counts′ = omega (arith, K .long, S .inside k h n) in
+            let b : p < length counts′ = omega (arith, K .long, S .small, n .1) in
             omega (
               arith,
               ap (at counts) (q ∙ ep),

@@ -29,6 +29,10 @@ pub rise-more : (l : List ℕ) (k : ℕ) → 1 ≤ k → ((i : ℕ) → i + 1 < 
     → (i : ℕ) → i + 1 < k + 1 → at l i < at l (i + 1)
 rise-more l k h up e i b = ⊎-elim (λ u. up i u) (λ z. let y : i ≡ k - 1 = omega arith in omega (arith, ap (at l) y, ap (at l) z)) (last-or k (i + 1) (omega arith))
 
+-- Numbers below a bound are below a greater one.
+pub rising-within : {m n : ℕ} {l : List ℕ} → m ≤ n → Rising m l → Rising n l
+rising-within h R = record { below = λ i b. omega (arith, R .below i b); rises = R .rises }
+
 -- No number stands twice, so there are at most `m`.
 module _ {m : ℕ} {l : List ℕ} (R : Rising m l) where
   pub rising-once : Once (at l) (length l) m

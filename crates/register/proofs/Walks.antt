@@ -8,7 +8,7 @@ use native.Mathlib.Decide.{ℕ-discrete, decLt}
 use native.Mathlib.Nat.{add-zero}
 use native.Mathlib.Omega.{arith}
 use lib.ListN.{length, take, drop, set, length-set, length-append}
-use lib.Seq.{getD-set-same, getD-set-other, getD-append-seam, append-snoc}
+use lib.Seq.{getD-set-same, getD-set-other, append-snoc}
 use Rattle.pattern.specs.Pattern.{column}
 use Rattle.pattern.specs.Places.{at}
 use Rattle.pattern.specs.Series.{numbers}
@@ -18,7 +18,7 @@ use Rattle.pattern.proofs.Turning.{Columns, met, met-all, met-here, met-other, 
 use Rattle.register.specs.Limits.{max-size}
 use Rattle.register.specs.Listing.{between, part, parts, Good}
 use Rattle.register.specs.Walk.{Cursors, Walked}
-use Rattle.register.proofs.Between.{between-length, between-at, between-more, between-same}
+use Rattle.register.proofs.Between.{between-more, between-same}
 use Rattle.register.proofs.Listings.{good-columns, good-column}
 
 -- What has been met may be put in other words.
@@ -155,21 +155,3 @@ module _ {m : ℕ} {P : List (List ℕ)} {j k i : ℕ} (t : Turn m P j k i) wher
     -- So there is room for it where the whole row has room.
     pub walked-room : base i + length (row-of P i m) ≤ base (i + 1) → at next i < base (i + 1)
     walked-room h = omega (arith, W .cursors .stand i row-in, ap length whole, length-append (met P i j k) (j ∷ rest .rest))
-
-    -- And where the whole row stands there, column `j` stands at the cursor.
-    pub walked-next : between (base i) (base (i + 1)) cols ≡ row-of P i m → (at next i < base (i + 1)) × (at cols (at next i) ≡ j)
-    walked-next all = (room, at-next)
-      where
-        fits-row : base (i + 1) ≤ length cols
-        fits-row = omega (arith, bases-rise (i + 1) m (omega (arith, row-in)) (omega arith))
-
-        room : at next i < base (i + 1)
-        room =
-            walked-room (omega (arith, ap length all, between-length (base i) (base (i + 1)) cols fits-row, from-base i row-in, W .in-row i row-in))
-
-        at-next : at cols (at next i) ≡ j
-        at-next =
-            ap (at cols) (W .cursors .stand i row-in)
-            ∙ sym (between-at (base i) (base (i + 1)) cols (length (met P i j k)) (omega (arith, W .cursors .stand i row-in, room)))
-            ∙ ap (λ (l : List ℕ). at l (length (met P i j k))) (all ∙ whole)
-            ∙ getD-append-seam (met P i j k) j (rest .rest) 0

@@ -2,6 +2,7 @@
 pub mod Limits
 pub mod Says
 pub mod Listing
+pub mod Falls
 pub mod Lent
 pub mod Held
 pub mod Reply

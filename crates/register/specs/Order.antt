@@ -1,7 +1,8 @@
--- The places of an order's rows in a scratch list, for the contracts of the steps of `order`. Rests on Limits.antt and `pattern`.
+-- The places of an order's rows and columns in scratch lists, for the contracts of the steps of `order`. Rests on Limits.antt and
+-- `pattern`.
 use mathlib.Core.List.{List}
 use mathlib.Core.Path.{_≡_}
-use Prim.Native.Nat.{ℕ, _<_}
+use Prim.Native.Nat.{ℕ, _+_, _<_}
 use lib.ListN.{length}
 use Rattle.pattern.specs.Pattern.{column}
 use Rattle.pattern.specs.Places.{at, Among, Once, place}
@@ -27,3 +28,19 @@ pub record Topped (m : ℕ) (places : List ℕ) (P : List (List ℕ)) (c t : ℕ
   pub below : c < m
   pub some : 0 < length (column P c)
   pub top : greatest (at places) (column P c) ≡ t
+
+-- The list has the greatest place among the rows of each column before column `n`.
+abbrev pub Tops : (n : ℕ) (places : List ℕ) (P : List (List ℕ)) (tops : List ℕ) → Type 0
+Tops n places P tops = (c : ℕ) → c < n → at tops c ≡ greatest (at places) (column P c)
+
+-- Column `c` may stand at place `t`, as the starts and such a list say it.
+pub record At-top (m : ℕ) (starts tops : List ℕ) (c t : ℕ) : Type 0 where
+  pub below : c < m
+  pub some : at starts c < at starts (c + 1)
+  pub top : at tops c ≡ t
+
+-- The places of an order's rows and columns are known, and a third list may be used for the work.
+pub record Places-known (m : ℕ) (row col : ℕ → ℕ) (work row-places col-places : List ℕ) : Type 0 where
+  pub work-long : length work ≡ max-size
+  pub rows-placed : Placed m row row-places
+  pub cols-placed : Placed m col col-places

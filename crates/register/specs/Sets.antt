@@ -1,11 +1,9 @@
 -- Sets of numbers below 1,024, by their tests: nothing here says how a set is kept. Rests on Limits.antt and
 -- `pattern`.
 use mathlib.Core.Bool.{Bool, true, false}
-use mathlib.Core.List.{List}
 use mathlib.Core.Logic.{_≢_}
 use mathlib.Core.Path.{_≡_}
 use Prim.Native.Nat.{ℕ, _≤_, _<_}
-use Rattle.pattern.specs.Pattern.{has}
 use Rattle.pattern.specs.Series.{tally}
 use Rattle.register.specs.Limits.{max-mark}
 
@@ -13,17 +11,6 @@ use Rattle.register.specs.Limits.{max-mark}
 pub record With (p q : ℕ → Bool) (i : ℕ) : Type 0 where
   pub here : q i ≡ true
   pub others : (k : ℕ) → k < max-mark → k ≢ i → q k ≡ p k
-
--- `r` is the first number of the set from `from` on, or 1,024 where there is none.
-pub record First (p : ℕ → Bool) (from r : ℕ) : Type 0 where
-  pub after : from ≤ r
-  pub within : r ≤ max-mark
-  pub none : (k : ℕ) → from ≤ k → k < r → p k ≡ false
-  pub there : r < max-mark → p r ≡ true
-
--- The set has the numbers of a list.
-abbrev pub Of-list : (ℕ → Bool) → List ℕ → Type 0
-Of-list p l = (k : ℕ) → k < max-mark → p k ≡ has l k
 
 -- The set has numbers below `m` only.
 abbrev pub Only-below : (ℕ → Bool) → ℕ → Type 0

@@ -4,17 +4,25 @@ use crate::Checked;
 use crate::Refusal;
 use crate::Register;
 use crate::listing::formed;
+use crate::listing::parts_rise;
 use crate::listing::rising;
-use crate::order::sound;
+use crate::listing::starts_right;
+use crate::order::clear;
+use crate::order::enter;
+use crate::order::topped;
 use crate::same::same;
 use crate::wide::wide;
 ghost use mathlib.Core.Path.{_≡_};
 ghost use Prim.Native.Nat.{_≤_, _<_};
 ghost use lib.ListN.{length};
+ghost use Rattle.pattern.specs.Places.{at};
+ghost use Rattle.pattern.specs.Ladder.{Unless};
 ghost use Rattle.register.specs.Checks.{Contents, First-fault, call, new-total, Fits, Column-checks, Call-fault};
+ghost use Rattle.register.specs.Falls.{Parts-rise};
 ghost use Rattle.register.specs.Lent.{lists, Sized, Long};
 ghost use Rattle.register.specs.Limits.{max-size};
-ghost use Rattle.register.specs.Listing.{Starts};
+ghost use Rattle.register.specs.Listing.{Room, Starts};
+ghost use Rattle.register.specs.Order.{Places-known};
 ghost use Rattle.register.specs.Reply.{fault};
 ghost use Rattle.register.specs.Says.{Says};
 
@@ -52,7 +60,20 @@ pub fn long_enough(
     true
 }
 
-// Checks 3 to 5: what the lists hold.
+// The fault of a row listing with right starts that is not the columns turned: it is malformed, or lists other entries.
+fn unlike(m: usize, rs: &[u16], rc: &[u16]) -> Checked
+    requires { ⌜ Room m (now rs) (now rc) × Starts m (now rs) ⌝ }
+    ensures { λ reply. ⌜ Unless (Parts-rise m (now (rs .entry)) (now (rc .entry))) 3 (λ n. n ≡ 4) (fault reply) ⌝ }
+{
+    if !parts_rise(m, rs, rc) {
+        return Checked::Refused(Refusal::MalformedListing);
+    }
+    Checked::Refused(Refusal::ListingsDiffer)
+}
+
+// Checks 3 to 5: what the lists hold. The entries are gone over once for the rows' listing and the order together; where that
+// fails, what it failed for is found by itself. Where nothing is refused, `places` and `tops` have the places of the rows and of
+// the columns: a column's own place is the greatest of its rows'.
 pub fn contents(
     m: usize,
     cs: &[u16],
@@ -61,22 +82,32 @@ pub fn contents(
     rc: &[u16],
     or: &[u16],
     oc: &[u16],
+    next: &mut [u16; Register::MAX_SIZE],
+    places: &mut [u16; Register::MAX_SIZE],
+    tops: &mut [u16; Register::MAX_SIZE],
 ) -> Checked
     requires { ⌜ Sized m × Long m (lists (now cs) (now cr) (now rs) (now rc) (now or) (now oc)) ⌝ }
+    requires { ⌜ (length (now next) ≡ max-size) × (length (now places) ≡ max-size) × (length (now tops) ≡ max-size) ⌝ }
     ensures { λ reply. ⌜ Contents m
         (lists (now (cs .entry)) (now (cr .entry)) (now (rs .entry)) (now (rc .entry)) (now (or .entry)) (now (oc .entry)))
         (λ n. n) (λ n. n ≡ 0) (fault reply) ⌝ }
+    ensures { λ reply. ⌜ (fault reply ≡ 0 → Places-known m (at (now (or .entry))) (at (now (oc .entry))) (now (next .exit)) (now (places .exit)) (now (tops .exit))) ⌝ }
 {
     if !formed(m, cs, cr) {
         return Checked::Refused(Refusal::MalformedListing);
     }
-    if !formed(m, rs, rc) {
+    if !starts_right(m, rs) {
         return Checked::Refused(Refusal::MalformedListing);
     }
-    if !same(m, cs, cr, rs, rc) {
-        return Checked::Refused(Refusal::ListingsDiffer);
+    clear(places);
+    let entered = enter(m, or, places);
+    if !same(m, cs, cr, rs, rc, next, places, tops) {
+        return unlike(m, rs, rc);
     }
-    if !sound(m, cs, cr, or, oc) {
+    if !entered {
+        return Checked::Refused(Refusal::OrderUnsound);
+    }
+    if !topped(m, cs, oc, tops) {
         return Checked::Refused(Refusal::OrderUnsound);
     }
     Checked::Sound
@@ -91,10 +122,15 @@ pub fn check(
     rc: &[u16],
     or: &[u16],
     oc: &[u16],
+    next: &mut [u16; Register::MAX_SIZE],
+    places: &mut [u16; Register::MAX_SIZE],
+    tops: &mut [u16; Register::MAX_SIZE],
 ) -> Checked
+    requires { ⌜ (length (now next) ≡ max-size) × (length (now places) ≡ max-size) × (length (now tops) ≡ max-size) ⌝ }
     ensures { λ reply. ⌜ First-fault m
         (lists (now (cs .entry)) (now (cr .entry)) (now (rs .entry)) (now (rc .entry)) (now (or .entry)) (now (oc .entry)))
         (fault reply) ⌝ }
+    ensures { λ reply. ⌜ (fault reply ≡ 0 → Places-known m (at (now (or .entry))) (at (now (oc .entry))) (now (next .exit)) (now (places .exit)) (now (tops .exit))) ⌝ }
 {
     if m == 0 {
         return Checked::Refused(Refusal::Size);
@@ -105,7 +141,7 @@ pub fn check(
     if !long_enough(m, cs, cr, rs, rc, or, oc) {
         return Checked::Refused(Refusal::ShortList);
     }
-    contents(m, cs, cr, rs, rc, or, oc)
+    contents(m, cs, cr, rs, rc, or, oc, next, places, tops)
 }
 
 // Check 8: the total with n new rows in the stead of column c's.
@@ -155,11 +191,16 @@ pub fn check_call(
     c: usize,
     new: &[u16],
     eta: &[u16],
+    next: &mut [u16; Register::MAX_SIZE],
+    places: &mut [u16; Register::MAX_SIZE],
+    tops: &mut [u16; Register::MAX_SIZE],
 ) -> Checked
+    requires { ⌜ (length (now next) ≡ max-size) × (length (now places) ≡ max-size) × (length (now tops) ≡ max-size) ⌝ }
     ensures { λ reply. ⌜ Call-fault
         (call m (lists (now (cs .entry)) (now (cr .entry)) (now (rs .entry)) (now (rc .entry)) (now (or .entry)) (now (oc .entry)))
         c (now (new .entry)) (now (eta .entry)))
         (fault reply) ⌝ }
+    ensures { λ reply. ⌜ (fault reply ≡ 0 → Places-known m (at (now (or .entry))) (at (now (oc .entry))) (now (next .exit)) (now (places .exit)) (now (tops .exit))) ⌝ }
 {
     if Register::MAX_SIZE < m {
         return Checked::Refused(Refusal::Size);
@@ -167,7 +208,7 @@ pub fn check_call(
     if eta.len() < m {
         return Checked::Refused(Refusal::ShortList);
     }
-    let checked = check(m, cs, cr, rs, rc, or, oc);
+    let checked = check(m, cs, cr, rs, rc, or, oc, next, places, tops);
     if let Checked::Sound = checked {
         return column_fault(m, cs, cr, rc, c, new);
     }

@@ -4,6 +4,8 @@
 use crate::Judgment;
 use crate::Register;
 use crate::marks::Marks;
+use crate::marks::hits;
+use crate::marks::lay;
 use crate::order::enter_first;
 use crate::order::top_place;
 use crate::peel::peel;
@@ -18,7 +20,7 @@ ghost use Rattle.register.specs.Checks.{call};
 ghost use Rattle.register.specs.Judge.{Judgeable, Judges, Bump-and-eta};
 ghost use Rattle.register.specs.Lent.{lists};
 ghost use Rattle.register.specs.Limits.{max-size};
-ghost use Rattle.register.specs.Marks.{marked};
+ghost use Rattle.register.specs.Marks.{flagged};
 ghost use Rattle.register.specs.Order.{Placed};
 
 // What ELIMINATION tells: the bump, and the rows paired with the reached columns but c's, which is at place p. The places are those
@@ -27,15 +29,15 @@ fn eliminate(
     m: usize,
     new: &[u16],
     p: usize,
-    reached: Marks,
+    marks: &[bool; Marks::ROOM],
     places: &[u16; Register::MAX_SIZE],
     eta: &mut [u16],
 ) -> Judgment
     requires { ⌜ (m ≤ max-size) × (m ≤ length (now eta)) × ((x : ℕ) → x < m → at (now places) x < m) ⌝ }
     requires { ⌜ Rising m (now new) × (p ≤ greatest (at (now places)) (now new)) ⌝ }
-    ensures { λ r. ⌜ Bump-and-eta m (now (places .entry)) (now (new .entry)) p (marked reached) (now (eta .entry)) r (now (eta .exit)) ⌝ }
+    ensures { λ r. ⌜ Bump-and-eta m (now (places .entry)) (now (new .entry)) p (flagged (now (marks .entry))) (now (eta .entry)) r (now (eta .exit)) ⌝ }
 {
-    let eta_count = reached.lay(m, places, p, eta);
+    let eta_count = lay(marks, m, places, p, eta);
     let bump = top_place(places, new) - p + 1;
     Judgment::Elimination { bump, eta_count }
 }
@@ -66,8 +68,10 @@ pub fn judge(
         (now (places .exit)) (now (old .exit)) (now (eta .exit)) r ⌝ }
     ensures { λ _. ⌜ length (now (places .exit)) ≡ max-size ⌝ }
 {
-    let reached = reach(m, rs, rc, or, old, p);
-    let met = reached.hits(new, places);
+    let empty = Register::empty_marks();
+    let mut marks = empty.marks;
+    reach(m, rs, rc, or, old, p, &mut marks);
+    let met = hits(&marks, new, places);
     if met == 0 {
         return Judgment::Singular;
     }
@@ -77,5 +81,5 @@ pub fn judge(
         }
         enter_first(m, or, places);
     }
-    eliminate(m, new, p, reached, places, eta)
+    eliminate(m, new, p, &marks, places, eta)
 }

@@ -130,6 +130,9 @@ impl Register {
             (now («order_rows» .entry)) (now («order_cols» .entry)))
             (fault reply) ⌝ }
     {
+        let mut next = [0u16; Register::MAX_SIZE];
+        let mut places = [0u16; Register::MAX_SIZE];
+        let mut tops = [0u16; Register::MAX_SIZE];
         check::check(
             self.size,
             col_starts,
@@ -138,6 +141,9 @@ impl Register {
             row_cols,
             order_rows,
             order_cols,
+            &mut next,
+            &mut places,
+            &mut tops,
         )
     }
 

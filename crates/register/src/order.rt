@@ -1,5 +1,5 @@
 // Whether an order is sound for a column listing (cs, cr: starts and rows): the places of its rows are entered in a scratch
-// list, and one pass over the columns in their order sees to the rest.
+// list, the greatest place of each column's rows in another, and one pass over the columns in their order sees to the rest.
 use crate::Register;
 use crate::listing::part;
 use crate::wide::wide;
@@ -13,7 +13,7 @@ ghost use Rattle.pattern.specs.Series.{greatest};
 ghost use Rattle.register.specs.Limits.{max-size};
 ghost use Rattle.register.specs.Says.{Told, Says};
 ghost use Rattle.register.specs.Listing.{parts, Good};
-ghost use Rattle.register.specs.Order.{Placed, Entered, Topped};
+ghost use Rattle.register.specs.Order.{Placed, Entered, Tops, At-top};
 
 // What stands in the scratch list for a number that has no place.
 pub const NOWHERE: u16 = 1000;
@@ -40,7 +40,7 @@ pub fn enter(m: usize, numbers: &[u16], places: &mut [u16; Register::MAX_SIZE]) 
 }
 
 // No number has a place.
-fn clear(places: &mut [u16; Register::MAX_SIZE])
+pub fn clear(places: &mut [u16; Register::MAX_SIZE])
     requires { ⌜ length (now places) ≡ max-size ⌝ }
     ensures { λ _. ⌜ (length (now (places .exit)) ≡ max-size) × ((x : ℕ) → x < max-size → at (now (places .exit)) x ≡ max-size) ⌝ }
 {
@@ -54,7 +54,7 @@ fn clear(places: &mut [u16; Register::MAX_SIZE])
 // Enters the places of the first n numbers, of which none stands twice. No other number has one then.
 pub fn enter_first(n: usize, numbers: &[u16], places: &mut [u16; Register::MAX_SIZE])
     requires { ⌜ (n ≤ max-size) × (n ≤ length (now numbers)) × Once (at (now numbers)) n max-size × (length (now places) ≡ max-size) ⌝ }
-    ensures { λ _. ⌜ Entered max-size (at (now (numbers .entry))) n (now (places .exit)) × ((x : ℕ) → x < max-size → at (now (places .exit)) x ≤ max-size) ⌝ }
+    ensures { λ _. ⌜ Entered max-size (at (now (numbers .entry))) n (now (places .exit)) ⌝ }
 {
     clear(places);
     let mut t = 0;
@@ -81,18 +81,29 @@ pub fn top_place(places: &[u16; Register::MAX_SIZE], rows: &[u16]) -> usize
     top
 }
 
-// Whether each column is in range and has rows, of which the last in the order stands at the column's own place. So no
-// column stands twice: a column has one such place.
-fn topped(
+// The greatest place of a row of each column.
+fn lay_tops(
     m: usize,
     cs: &[u16],
     cr: &[u16],
-    cols: &[u16],
     places: &[u16; Register::MAX_SIZE],
-) -> bool
-    requires { ⌜ Good m (now cs) (now cr) × (m ≤ length (now cols)) ⌝ }
-    ensures { λ answer. ⌜ Says answer
-        ((t : ℕ) → t < m → Topped m (now (places .entry)) (parts m (now (cs .entry)) (now (cr .entry))) (at (now (cols .entry)) t) t) ⌝ }
+    tops: &mut [u16; Register::MAX_SIZE],
+)
+    requires { ⌜ Good m (now cs) (now cr) × ((x : ℕ) → x < m → at (now places) x < m) × (length (now tops) ≡ max-size) ⌝ }
+    ensures { λ _. ⌜ Tops m (now (places .entry)) (parts m (now (cs .entry)) (now (cr .entry))) (now (tops .exit)) ⌝ }
+{
+    let mut c = 0;
+    while c < m {
+        tops[c] = top_place(places, part(cs, cr, c)) as u16;
+        c += 1;
+    }
+}
+
+// Whether each column is in range and has rows, of which the last in the order stands at the column's own place. So no
+// column stands twice: a column has one such place.
+pub fn topped(m: usize, cs: &[u16], cols: &[u16], tops: &[u16; Register::MAX_SIZE]) -> bool
+    requires { ⌜ (m ≤ max-size) × (m < length (now cs)) × (m ≤ length (now cols)) ⌝ }
+    ensures { λ answer. ⌜ Says answer ((t : ℕ) → t < m → At-top m (now (cs .entry)) (now (tops .entry)) (at (now (cols .entry)) t) t) ⌝ }
 {
     let mut t = 0;
     while t < m {
@@ -100,11 +111,10 @@ fn topped(
         if m <= c {
             return false;
         }
-        let rows = part(cs, cr, c);
-        if rows.len() == 0 {
+        if cs[c + 1] <= cs[c] {
             return false;
         }
-        if top_place(places, rows) != t {
+        if wide(tops[c]) != t {
             return false;
         }
         t += 1;
@@ -122,5 +132,7 @@ pub fn sound(m: usize, cs: &[u16], cr: &[u16], rows: &[u16], cols: &[u16]) -> bo
     if !enter(m, rows, &mut places) {
         return false;
     }
-    topped(m, cs, cr, cols, &places)
+    let mut tops = [0u16; Register::MAX_SIZE];
+    lay_tops(m, cs, cr, &places, &mut tops);
+    topped(m, cs, cols, &tops)
 }

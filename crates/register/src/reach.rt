@@ -5,16 +5,19 @@ use crate::listing::part;
 use crate::marks::Marks;
 use crate::marks::mark_places;
 use crate::wide::wide;
+ghost use mathlib.Core.Bool.{false};
+ghost use mathlib.Core.Path.{_≡_};
 ghost use Prim.Native.Nat.{ℕ, _≤_, _<_};
 ghost use lib.ListN.{length};
 ghost use Rattle.pattern.specs.Order.{Sound};
 ghost use Rattle.pattern.specs.Places.{at};
+ghost use Rattle.register.specs.Limits.{max-mark};
 ghost use Rattle.register.specs.Listing.{parts, Good};
-ghost use Rattle.register.specs.Marks.{marked};
+ghost use Rattle.register.specs.Marks.{flagged};
 ghost use Rattle.register.specs.Order.{Placed};
 ghost use Rattle.register.specs.Reach.{By-rows, Reached};
 
-// The old places of the columns of Reach(c), c being the column at place p. `old` has the old place of each column.
+// Marks the old places of the columns of Reach(c), c being the column at place p. `old` has the old place of each column.
 pub fn reach(
     m: usize,
     rs: &[u16],
@@ -22,22 +25,20 @@ pub fn reach(
     or: &[u16],
     old: &[u16; Register::MAX_SIZE],
     p: usize,
-) -> Marks
+    marks: &mut [bool; Marks::ROOM],
+)
     requires { ⌜ Good m (now rs) (now rc) × (m ≤ length (now or)) × ((t : ℕ) → t < m → at (now or) t < m) ⌝ }
-    requires { ⌜ (p < m) × ((y : ℕ) → y < m → at (now old) y < m) ⌝ }
-    ensures { λ r. ⌜ ((col : ℕ → ℕ) → Placed m col (now (old .entry))
+    requires { ⌜ (p < m) × ((y : ℕ) → y < m → at (now old) y < m) × (length (now marks) ≡ max-mark) × ((k : ℕ) → k < max-mark → flagged (now marks) k ≡ false) ⌝ }
+    ensures { λ _. ⌜ ((col : ℕ → ℕ) → Placed m col (now (old .entry))
         → Sound (By-rows (parts m (now (rs .entry)) (now (rc .entry)))) m (at (now (or .entry))) col
-        → Reached (By-rows (parts m (now (rs .entry)) (now (rc .entry)))) m (at (now (or .entry))) col (col p) (marked r)) ⌝ }
+        → Reached (By-rows (parts m (now (rs .entry)) (now (rc .entry)))) m (at (now (or .entry))) col (col p) (flagged (now (marks .exit)))) ⌝ }
 {
-    let empty = Register::empty_marks();
-    let mut marks = empty.marks;
     marks[p] = true;
     let mut t = p;
     while t < m {
         if marks[t] {
-            mark_places(part(rs, rc, wide(or[t])), old, &mut marks);
+            mark_places(part(rs, rc, wide(or[t])), old, marks);
         }
         t += 1;
     }
-    Marks { marks }
 }

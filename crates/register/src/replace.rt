@@ -10,7 +10,6 @@ use crate::check::check_call;
 use crate::join::first;
 use crate::join::join;
 use crate::judge::judge;
-use crate::order::enter_first;
 use crate::store::store;
 use crate::wide::wide;
 ghost use mathlib.Core.Path.{_≡_};
@@ -85,7 +84,7 @@ fn change(
     judgment
 }
 
-// The checks 1 to 8, and then the change.
+// The checks 1 to 8, and then the change. The three lists are lent to the checks, which leave the places there, and to the change.
 pub fn replace(
     m: usize,
     cs: &mut [u16],
@@ -103,15 +102,27 @@ pub fn replace(
         c (now (new .entry)) (now (eta .entry)))
         (outcome (reply r) (lists (now (cs .exit)) (now (cr .exit)) (now (rs .exit)) (now (rc .exit)) (now (or .exit)) (now (oc .exit))) (now (eta .exit))) ⌝ }
 {
-    let checked = check_call(m, cs, cr, rs, rc, or, oc, c, new, eta);
+    let mut counts = [0u16; Register::MAX_SIZE];
+    let mut places = [0u16; Register::MAX_SIZE];
+    let mut old = [0u16; Register::MAX_SIZE];
+    let checked = check_call(
+        m,
+        cs,
+        cr,
+        rs,
+        rc,
+        or,
+        oc,
+        c,
+        new,
+        eta,
+        &mut counts,
+        &mut places,
+        &mut old,
+    );
     if let Checked::Refused(why) = checked {
         return Replaced::Refused(why);
     }
-    let mut counts = [0u16; Register::MAX_SIZE];
-    let mut old = [0u16; Register::MAX_SIZE];
-    let mut places = [0u16; Register::MAX_SIZE];
-    enter_first(m, oc, &mut old);
-    enter_first(m, or, &mut places);
     Replaced::Given(change(
         m,
         cs,

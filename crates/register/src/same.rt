@@ -1,17 +1,23 @@
-// Whether a column listing (cs, cr: starts and rows) and a row listing (rs, rc: starts and columns) list the same entries: the
-// columns are read in order, and each of a column's rows must have that column as the next that it lists.
+// Whether a row listing (rs, rc: starts and columns) is well formed and lists the entries of a column listing (cs, cr: starts and
+// rows): the columns are read in order, and each of a column's rows must have that column as the next that it lists. A row
+// then lists what its columns are, which rises, so that the row listing is not gone over by itself. On the way the
+// greatest place of each column's rows is taken, for the order.
 use crate::Register;
 use crate::listing::part;
 use crate::wide::wide;
 ghost use mathlib.Core.Path.{_≡_};
 ghost use Prim.Native.Nat.{ℕ, _+_, _≤_, _<_};
-ghost use lib.ListN.{length};
+ghost use lib.Dec.{T};
+ghost use lib.ListN.{length, set};
+ghost use Rattle.pattern.specs.Pattern.{has};
 ghost use Rattle.pattern.specs.Places.{at};
-ghost use Rattle.pattern.specs.Turned.{row-of, Same-entries};
-ghost use Rattle.register.specs.Limits.{max-size};
+ghost use Rattle.pattern.specs.Rising.{Rising};
+ghost use Rattle.pattern.specs.Series.{greatest};
+ghost use Rattle.register.specs.Limits.{max-size, max-total};
 ghost use Rattle.register.specs.Says.{Told, Says};
-ghost use Rattle.register.specs.Listing.{parts, Good};
-ghost use Rattle.register.specs.Walk.{Walked};
+ghost use Rattle.register.specs.Listing.{parts, Room, Starts, Good};
+ghost use Rattle.register.specs.Order.{Tops};
+ghost use Rattle.register.specs.Walk.{All-next, Past, Rows-turned};
 
 // Each row's cursor at the row's start.
 fn set_out(m: usize, starts: &[u16], next: &mut [u16; Register::MAX_SIZE])
@@ -25,36 +31,42 @@ fn set_out(m: usize, starts: &[u16], next: &mut [u16; Register::MAX_SIZE])
     }
 }
 
-// Reads column j. A row's cursor goes past j, which must stand there.
+// Reads column j, which has these rows. Each row's cursor goes past j, which must stand there. No end of a row is asked for: each
+// cursor is held to it when all columns have been read.
 fn meet(
-    m: usize,
-    cs: &[u16],
-    cr: &[u16],
-    rs: &[u16],
-    rc: &[u16],
+    rows: &[u16],
+    cols: &[u16],
     j: usize,
+    places: &[u16; Register::MAX_SIZE],
     next: &mut [u16; Register::MAX_SIZE],
+    tops: &mut [u16; Register::MAX_SIZE],
 ) -> bool
-    requires { ⌜ (j < m) × Good m (now cs) (now cr) × Good m (now rs) (now rc) ⌝ }
-    requires { ⌜ Walked m (at (now rs)) (now rc) (λ r. row-of (parts m (now cs) (now cr)) r j) (now next) ⌝ }
+    requires { ⌜ (j < max-size) × Rising max-size (now rows) × (length (now next) ≡ max-size) × (length (now tops) ≡ max-size) ⌝ }
+    requires { ⌜ ((r : ℕ) → T (has (now rows) r) → at (now next) r ≤ max-total + max-size) ⌝ }
     ensures { λ answer. ⌜ Told answer
-        (Walked m (at (now (rs .entry))) (now (rc .entry)) (λ r. row-of (parts m (now (cs .entry)) (now (cr .entry))) r (j + 1)) (now (next .exit)))
-        (¬ Same-entries (parts m (now (cs .entry)) (now (cr .entry))) (parts m (now (rs .entry)) (now (rc .entry)))) ⌝ }
+        (Past (now (cols .entry)) j (now (rows .entry)) (now (next .entry)) (now (next .exit))
+        × (now (tops .exit) ≡ set (now (tops .entry)) j (greatest (at (now (places .entry))) (now (rows .entry)))))
+        (¬ All-next (now (cols .entry)) j (now (rows .entry)) (now (next .entry))) ⌝ }
 {
-    let rows = part(cs, cr, j);
+    let mut top: u16 = 0;
     let mut k = 0;
     while k < rows.len() {
         let r = wide(rows[k]);
-        let p = next[r];
-        if rs[r + 1] <= p {
+        let p = wide(next[r]);
+        if cols.len() <= p {
             return false;
         }
-        if wide(rc[wide(p)]) != j {
+        if wide(cols[p]) != j {
             return false;
         }
-        next[r] = p + 1;
+        next[r] = (p + 1) as u16;
+        let place = places[r];
+        if top < place {
+            top = place;
+        }
         k += 1;
     }
+    tops[j] = top;
     true
 }
 
@@ -63,29 +75,42 @@ fn all_met(m: usize, starts: &[u16], next: &[u16; Register::MAX_SIZE]) -> bool
     requires { ⌜ (m ≤ max-size) × (m < length (now starts)) ⌝ }
     ensures { λ answer. ⌜ Says answer ((r : ℕ) → r < m → at (now (next .entry)) r ≡ at (now (starts .entry)) (r + 1)) ⌝ }
 {
+    let mut short = false;
     let mut r = 0;
     while r < m {
         if next[r] != starts[r + 1] {
-            return false;
+            short = true;
         }
         r += 1;
     }
-    true
+    !short
 }
 
-// Whether the two listings list the same entries.
-pub fn same(m: usize, cs: &[u16], cr: &[u16], rs: &[u16], rc: &[u16]) -> bool
-    requires { ⌜ Good m (now cs) (now cr) × Good m (now rs) (now rc) ⌝ }
-    ensures { λ answer. ⌜ Says answer (Same-entries (parts m (now (cs .entry)) (now (cr .entry))) (parts m (now (rs .entry)) (now (rc .entry)))) ⌝ }
+// Whether the row listing is the columns turned; and the columns' greatest places. The list `next` is lent for the cursors.
+pub fn same(
+    m: usize,
+    cs: &[u16],
+    cr: &[u16],
+    rs: &[u16],
+    rc: &[u16],
+    next: &mut [u16; Register::MAX_SIZE],
+    places: &[u16; Register::MAX_SIZE],
+    tops: &mut [u16; Register::MAX_SIZE],
+) -> bool
+    requires { ⌜ Good m (now cs) (now cr) × Room m (now rs) (now rc) × Starts m (now rs) × (length (now next) ≡ max-size) × (length (now tops) ≡ max-size) ⌝ }
+    ensures { λ answer. ⌜ Told answer
+        (Rows-turned m (parts m (now (cs .entry)) (now (cr .entry))) (now (rs .entry)) (now (rc .entry))
+        × Tops m (now (places .entry)) (parts m (now (cs .entry)) (now (cr .entry))) (now (tops .exit))
+        × (length (now (next .exit)) ≡ max-size) × (length (now (tops .exit)) ≡ max-size))
+        (¬ Rows-turned m (parts m (now (cs .entry)) (now (cr .entry))) (now (rs .entry)) (now (rc .entry))) ⌝ }
 {
-    let mut next = [0u16; Register::MAX_SIZE];
-    set_out(m, rs, &mut next);
+    set_out(m, rs, next);
     let mut j = 0;
     while j < m {
-        if !meet(m, cs, cr, rs, rc, j, &mut next) {
+        if !meet(part(cs, cr, j), rc, j, places, next, tops) {
             return false;
         }
         j += 1;
     }
-    all_met(m, rs, &next)
+    all_met(m, rs, next)
 }

@@ -37,7 +37,7 @@ fn enter(bytes: &[u8], place: usize, m: u32, places: &mut [u16; Register::MAX_SI
     let mut t = 0;
     while t < m {
         let pair = known_pair(bytes, at, m);
-        if places[pair.row as usize] != NOWHERE {
+        if places[pair.row as usize] < NOWHERE {
             return false;
         }
         places[pair.row as usize] = t as u16;

@@ -8,15 +8,23 @@ use Rattle.register.proofs.check.check.Statement.{statement}
 use Rattle.register.proofs.check.check.Tie as tie
 
 returns-3 : tie.Need-returns-3
-returns-3 c = holds (omega arith) (fails (refuted (c .before .long-enough .ensures) (c .if3 .taken)) refl)
+returns-3 c = (holds (omega arith) (fails (refuted (c .before .long-enough .ensures) (c .if3 .taken)) refl), λ e. absurd (omega (arith, e)))
 
 contents-requires : tie.Need-contents-requires
-contents-requires c κs = (omega arith, shown (c .before .long-enough .ensures) (c .if3 .left))
+contents-requires c κs = let e = c .before .before .before in ((omega arith, shown (e .before .long-enough .ensures) (e .if3 .left)), e .before .before .before .before .before .before .before .before .before .before .pre)
 
 returns-4 : tie.Need-returns-4
-returns-4 c = holds (omega arith) (holds (shown (c .before .before .long-enough .ensures) (c .before .if3 .left)) (c .contents .ensures))
+returns-4 c =
+    let e = c .before .before .before .before in
+    (holds (omega arith) (holds (shown (e .before .long-enough .ensures) (e .if3 .left)) (c .contents .ensures .0)), c .contents .ensures .1)
 
 pub check-spec : {M : Type 1} → statement M
 check-spec =
     tie.close
-    (tie.spec (λ c. fails (λ p. omega arith) refl) (λ c. fails (λ p. omega arith) refl) (λ c κs. search needs) returns-3 contents-requires returns-4)
+    (tie.spec
+    (λ c. (fails (λ p. omega arith) refl, λ e. absurd (omega (arith, e))))
+    (λ c. (fails (λ p. omega arith) refl, λ e. absurd (omega (arith, e))))
+    (λ c κs. search needs)
+    returns-3
+    contents-requires
+    returns-4)

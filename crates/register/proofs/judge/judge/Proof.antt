@@ -2,8 +2,8 @@
 use mathlib.Core.Bool.{Bool}
 use mathlib.Core.Logic.{_≢_, ⊎-elim}
 use mathlib.Core.List.{List}
-use mathlib.Core.Path.{_≡_, refl, sym, ap, _∙_, subst}
-use Prim.Native.Nat.{ℕ, _≤_, _<_}
+use mathlib.Core.Path.{_≡_, sym, ap, _∙_, subst}
+use Prim.Native.Nat.{ℕ, _<_}
 use native.Mathlib.Omega.{arith}
 use lib.Dec.{T}
 use lib.ListN.{length}
@@ -17,11 +17,12 @@ use Rattle.pattern.proofs.Tests.{has-among, among-has}
 use Rattle.register.specs.Checks.{Call, call}
 use Rattle.register.specs.Judge.{Judgeable}
 use Rattle.register.specs.Lent.{lists, rows}
-use Rattle.register.specs.Marks.{marked}
+use Rattle.register.specs.Marks.{flagged}
 use Rattle.register.specs.Order.{Placed}
 use Rattle.register.specs.Reach.{By-rows, Reached}
 use Rattle.register.specs.Replace as replace
 use Rattle.register.specs.Sets.{counted}
+use Rattle.register.proofs.Bools.{unmarked-flags, unmarked-long}
 use Rattle.register.proofs.Counting.{counted-some, counted-two, some-counted}
 use Rattle.register.proofs.Judging.{rows-sound, Met, judged-permuted, judged-singular, two-met, c-before-top, judged-elimination}
 use Rattle.register.proofs.Orders.{entered-placed, once-wide, placed-below}
@@ -55,17 +56,18 @@ module _ (begun : tie.Start) where
 
 reach-requires : tie.Need-reach-requires
 reach-requires c κs =
-    let s = c .before .before .before .before .before .before .before .before .before in
+    let s = c .before .before .before .before .before .before .before .before .before .before .before .before in
+    let e = c .before .before .before .empty-marks .ensures in
     let L = J s .sound in
-    ((rows-good L, L .long .order-rows-fit, L .order .rows .below), (p-place s .0, placed-below (s .pre .1 .1)))
+    ((rows-good L, L .long .order-rows-fit, L .order .rows .below), (p-place s .0, placed-below (s .pre .1 .1), rw e unmarked-long, rw e unmarked-flags))
 
 -- The sweep has found the places of Reach(c).
 module _ (c : tie.After-reach) where
   abbrev s : tie.Start
-  s = c .before .before .before .before .before .before .before .before .before .before
+  s = c .before .before .before .before .before .before .before .before .before .before .before .before .before
 
   abbrev reached : ℕ → Bool
-  reached = marked (c .reach .result)
+  reached = flagged (c .reach .last .1 .1 .1 .1 .1 .1 .0)
 
   abbrev Finds : ℕ → Type 0
   Finds x =
@@ -79,14 +81,14 @@ module _ (c : tie.After-reach) where
 
 hits-requires : tie.Need-hits-requires
 hits-requires c κs = λ k h.
-    let r = c .before in
+    let r = c .before .before in
     let b = new-in r k h in
     omega (arith, b, J (s r) .sound .sized, placed-below (rows-placed (s r)) (at (asked (s r) .new-rows) k) b)
 
 -- How many new rows are met is known.
 module _ (c : tie.After-hits) where
   abbrev swept : tie.After-reach
-  swept = c .before .before
+  swept = c .before .before .before
 
   abbrev begun : tie.Start
   begun = s swept
@@ -121,18 +123,18 @@ returns c = let h = c .before in (judged-singular (J (begun h)) (found (swept h)
 
 peel-requires : tie.Need-peel-requires
 peel-requires c κs =
-    let s = c .before .before .before .before .before .before .before .before .before .before .before .before .before .before .before .before .before in
+    let s = c .before .before .before .before .before .before .before .before .before .before .before .before .before .before .before .before .before .before .before .before .before in
     let L = J s .sound in (
       (columns-good L, rows-good L, L .agree),
-      ((L .long .order-rows-fit, L .long .order-cols-fit, L .order), ((J s .column-below, J s .new-rise, s .pre .1 .0), (s .pre .1 .3, s .pre .1 .1, rows-placed s .long))),
+      ((L .long .order-rows-fit, L .long .order-cols-fit, L .order), ((J s .column-below, J s .new-rise, s .pre .1 .0), (s .pre .1 .3, s .pre .1 .1, rows-placed s))),
     )
 
 returns-2 : tie.Need-returns-2
-returns-2 c = let k = c .before .peel .ensures in (judged-permuted (J (c .before .before .before .before .before .before .before .before .before .before .before .before .before .before .before .before .before .before .before)) (k .0 .yes (c .if3 .taken)), k .1)
+returns-2 c = let k = c .before .peel .ensures in (judged-permuted (J (c .before .before .before .before .before .before .before .before .before .before .before .before .before .before .before .before .before .before .before .before .before .before .before)) (k .0 .yes (c .if3 .taken)), k .1)
 
 enter-first-requires : tie.Need-enter-first-requires
 enter-first-requires c κs =
-    let s = c .before .before .before .before .before .before .before .before .before .before .before .before .before .before .before .before .before .before .before .before in
+    let s = c .before .before .before .before .before .before .before .before .before .before .before .before .before .before .before .before .before .before .before .before .before .before .before .before in
     let L = J s .sound in
     (L .sized .1, L .long .order-rows-fit, once-wide (omega arith) (L .sized .1) (L .order .rows), c .before .before .peel .ensures .1)
 
@@ -150,7 +152,7 @@ module _ (c : tie.Joined2) where
   placed : Rows-placed (c .if2 .places)
   placed =
       ⊎-elim
-      (λ w. subst Rows-placed (sym (w .10)) (entered-placed (J (begun hit) .sound .order .rows) (w .7 .ensures .0)))
+      (λ w. subst Rows-placed (sym (w .10)) (entered-placed (J (begun hit) .sound .order .rows) (w .7 .ensures)))
       (λ w. subst Rows-placed (sym (w .3)) (rows-placed (begun hit)))
       (c .if2 .came)
 
@@ -159,7 +161,7 @@ module _ (c : tie.Joined2) where
 
 eliminate-requires : tie.Need-eliminate-requires
 eliminate-requires c κs =
-    let j = c .before .before in
+    let j = c .before .before .before in
     let h = hit j in
     let s = begun h in (
       (J s .sound .sized .1, s .pre .0 .1, placed-below (placed j)),
@@ -168,7 +170,7 @@ eliminate-requires c κs =
 
 returns-3 : tie.Need-returns-3
 returns-3 c =
-    let j = c .before .before .before .before .before in
+    let j = c .before .before .before .before .before .before in
     let h = hit j in
     (judged-elimination (J (begun h)) (found (swept h)) (met j .0) (met j .1) (none j) (begun h .pre .1 .0) (placed j) (c .before .before .eliminate .ensures), placed j .long)
 
@@ -176,6 +178,7 @@ pub judge-spec : {M : Type 1} → statement M
 judge-spec =
     tie.close
     (tie.spec
+    (λ c κs. search needs)
     reach-requires
     hits-requires
     returns

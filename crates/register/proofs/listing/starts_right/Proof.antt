@@ -1,18 +1,21 @@
--- `starts_right`: the starts before k do not fall.
+-- `starts_right`: whether a start before start k fell.
+use mathlib.Core.Logic.{⊎-elim}
 use Prim.Native.Nat.{ℕ, _+_, _-_, _≤_, _<_}
 use native.Mathlib.Omega.{arith}
 use borrow.Author.Needs.{needs}
 use borrow.Author.Count.{below-more, below-none}
 use Rattle.pattern.specs.Places.{at}
-use Rattle.register.proofs.Answers.{told-yes, told-no}
+use Rattle.register.specs.Listing.{Starts}
+use Rattle.register.specs.Says.{Told}
+use Rattle.register.proofs.Answers.{told-yes, told-no, told-not, told-as}
 use Rattle.register.proofs.listing.starts_right.Statement.{statement}
 use Rattle.register.proofs.listing.starts_right.Tie as tie
 
 abbrev Inv-loop : tie.InvT-loop
-Inv-loop m starts k₀ k = (i : ℕ) → i < k → at starts i ≤ at starts (i + 1)
+Inv-loop m starts fell₀ k₀ fell k = Told fell (¬ Starts m starts) ((i : ℕ) → i < k → at starts i ≤ at starts (i + 1))
 
 abbrev μ-loop : tie.MeasureT-loop
-μ-loop m starts k₀ k = m - k
+μ-loop m starts fell₀ k₀ fell k = m - k
 
 returns : tie.Need-returns Inv-loop μ-loop
 returns c = told-no (λ p. c .if1 .taken (p .first))
@@ -21,16 +24,20 @@ returns-2 : tie.Need-returns-2 Inv-loop μ-loop
 returns-2 c = told-no (λ p. omega arith)
 
 loop-holds : tie.Need-loop-holds Inv-loop μ-loop
-loop-holds c = below-none _
-
-returns-3 : tie.Need-returns-3 Inv-loop μ-loop
-returns-3 c = told-no (λ p. omega (arith, p .never-fall (c .before .before .before .before .loop .k) (omega arith)))
+loop-holds c = told-no (below-none _)
 
 loop-again : tie.Need-loop-again Inv-loop μ-loop
-loop-again c = below-more _ _ (c .before .before .before .before .loop .inv) (omega arith)
+loop-again c =
+    let l = c .before .before .before .before .loop in
+    ⊎-elim
+    (λ w. rw (w .1) (told-yes (λ p. omega (arith, w .0 .taken, p .never-fall (l .k) (omega arith)))))
+    (λ w. rw (w .1) (told-as (λ n. n) (λ all. below-more _ _ all (omega (arith, w .0 .left))) (l .inv)))
+    (c .if3 .came)
 
-returns-4 : tie.Need-returns-4 Inv-loop μ-loop
-returns-4 c = told-yes (record { first = omega arith; never-fall = λ i h. c .before .loop .inv i (omega arith); total = omega arith })
+returns-3 : tie.Need-returns-3 Inv-loop μ-loop
+returns-3 c =
+    told-as (λ all. record { first = omega arith; never-fall = λ i h. all i (omega arith); total = omega arith }) (λ n. n)
+    (told-not (c .before .loop .inv))
 
 pub starts-right-spec : {M : Type 1} → statement M
 starts-right-spec =
@@ -50,8 +57,7 @@ starts-right-spec =
     (λ c. search needs)
     (λ c. search needs)
     (λ c. search needs)
-    returns-3
     (λ c. search needs)
     (λ c. search needs)
     loop-again
-    returns-4)
+    returns-3)

@@ -1,10 +1,7 @@
 -- `enter_first`: the places of the numbers before place t have been entered.
-use mathlib.Core.Path.{_≡_, ap}
-use Prim.Native.Nat.{ℕ, _-_, _≤_, _<_}
-use native.Mathlib.Decide.{ℕ-discrete}
+use mathlib.Core.Path.{_≡_}
+use Prim.Native.Nat.{_-_, _≤_, _<_}
 use native.Mathlib.Omega.{arith}
-use lib.ListN.{set}
-use lib.Seq.{getD-set-same, getD-set-other}
 use borrow.Author.Needs.{needs}
 use Rattle.pattern.specs.Places.{at}
 use Rattle.register.specs.Limits.{max-size}
@@ -14,7 +11,7 @@ use Rattle.register.proofs.order.enter_first.Statement.{statement}
 use Rattle.register.proofs.order.enter_first.Tie as tie
 
 abbrev Inv-loop : tie.InvT-loop
-Inv-loop n numbers places₀ t₀ places t = (t ≤ n) × Entered max-size (at numbers) t places × ((x : ℕ) → x < max-size → at places x ≤ max-size)
+Inv-loop n numbers places₀ t₀ places t = (t ≤ n) × Entered max-size (at numbers) t places
 
 abbrev μ-loop : tie.MeasureT-loop
 μ-loop n numbers places₀ t₀ places t = n - t
@@ -33,7 +30,7 @@ module _ (c : tie.After-wide Inv-loop μ-loop) where
 loop-holds : tie.Need-loop-holds Inv-loop μ-loop
 loop-holds c =
     let e = c .clear .ensures in
-    (omega arith, entered-none _ (e .0) (λ x h. omega (arith, e .1 x h)), λ x h. omega (arith, e .1 x h))
+    (omega arith, entered-none _ (e .0) (λ x h. omega (arith, e .1 x h)))
 
 loop-again : tie.Need-loop-again Inv-loop μ-loop
 loop-again c =
@@ -44,16 +41,10 @@ loop-again c =
       omega arith,
       entered-more f (omega arith) h (l .inv .1) x (c .wide .ensures) (number-in c)
           (entered-left f (omega arith) h (l .inv .1) x (c .wide .ensures) (number-in c) (omega arith) (begun c .pre .2)),
-      λ y b. low y b (ℕ-discrete y x),
     )
-  where
-    low : (y : ℕ) → y < max-size → Dec (y ≡ c .wide .result) → at (set (head c .loop .places) (c .wide .result) (head c .loop .t)) y ≤ max-size
-    low y b (yes e) =
-        omega (arith, ap (at (set (head c .loop .places) (c .wide .result) (head c .loop .t))) e, getD-set-same (head c .loop .places) (c .wide .result) (head c .loop .t) 0 (omega (arith, head c .loop .inv .1 .long, number-in c)))
-    low y b (no e) = omega (arith, getD-set-other (head c .loop .places) (c .wide .result) y (head c .loop .t) 0 e, head c .loop .inv .2 y b)
 
 returns : tie.Need-returns Inv-loop μ-loop
-returns c = let l = c .before in let e : l .loop .t ≡ l .before .before .before .before .args .n = omega arith in (rw e at (l .loop .inv .1), l .loop .inv .2)
+returns c = let l = c .before in let e : l .loop .t ≡ l .before .before .before .before .args .n = omega arith in rw e at (l .loop .inv .1)
 
 pub enter-first-spec : {M : Type 1} → statement M
 enter-first-spec =

@@ -4,7 +4,7 @@ use mathlib.Core.Path.{_≡_, sym, _∙_, subst}
 use Prim.Native.Nat.{ℕ}
 use borrow.Author.Needs.{needs}
 use Rattle.register.specs.Peel.{spiked-part, Some-left, Is-left}
-use Rattle.register.proofs.Peels.{part-new, part-old}
+use Rattle.register.proofs.SpikedParts.{part-new, part-old}
 use Rattle.register.proofs.peel.column_left.Statement.{statement}
 use Rattle.register.proofs.peel.column_left.Tie as tie
 

@@ -1,12 +1,11 @@
 -- `count_of`: the new column's rows, or those of a part.
 use mathlib.Core.List.{List}
-use mathlib.Core.Path.{_≡_, sym, ap, _∙_, subst}
+use mathlib.Core.Path.{sym, ap, _∙_, subst}
 use Prim.Native.Nat.{ℕ, _≤_}
 use lib.ListN.{length}
-use borrow.Author.Needs.{needs}
 use Rattle.register.specs.Limits.{max-size}
 use Rattle.register.specs.Peel.{unplaced, Rows-low}
-use Rattle.register.proofs.Peels.{part-new, part-old}
+use Rattle.register.proofs.SpikedParts.{part-new, part-old}
 use Rattle.register.proofs.peel.count_of.Statement.{statement}
 use Rattle.register.proofs.peel.count_of.Tie as tie
 
@@ -17,7 +16,7 @@ rows-left-requires : tie.Need-rows-left-requires
 rows-left-requires c κs =
     let s = c .before .before .before .before in
     let a = s .args in
-    subst Fits (part-new (a .cs .now) (a .cr .now) (a .c) (a .new .now) (a .y) (c .if1 .taken)) (s .pre .1)
+    subst Fits (part-new (a .cs .now) (a .cr .now) (a .c) (a .new .now) (a .y) (c .if1 .taken)) (s .pre .below, s .pre .few)
 
 returns : tie.Need-returns
 returns c =
@@ -25,13 +24,13 @@ returns c =
     c .rows-left .ensures ∙ ap (unplaced (a .places .now)) (sym (part-new (a .cs .now) (a .cr .now) (a .c) (a .new .now) (a .y) (c .before .if1 .taken)))
 
 part-requires : tie.Need-part-requires
-part-requires c κs = search needs
+part-requires c κs = let s = c .before .before .before .before in (s .pre .started, s .pre .within)
 
 rows-left-requires-2 : tie.Need-rows-left-requires-2
 rows-left-requires-2 c κs =
     let s = c .before .before .before .before .before in
     let a = s .args in
-    subst Fits (part-old (a .cs .now) (a .cr .now) (a .c) (a .new .now) (a .y) (c .before .if1 .left) ∙ sym (c .part .ensures)) (s .pre .1)
+    subst Fits (part-old (a .cs .now) (a .cr .now) (a .c) (a .new .now) (a .y) (c .before .if1 .left) ∙ sym (c .part .ensures)) (s .pre .below, s .pre .few)
 
 returns-2 : tie.Need-returns-2
 returns-2 c =

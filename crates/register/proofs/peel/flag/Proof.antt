@@ -1,6 +1,5 @@
 -- `flag`: the new rows before k have been gone through.
 use mathlib.Core.Logic.{⊎-elim}
-use mathlib.Core.Path.{_≡_, ap, _∙_}
 use Prim.Native.Nat.{_-_, _≤_, _<_}
 use native.Mathlib.Omega.{arith}
 use lib.ListN.{length}
@@ -19,7 +18,7 @@ row-in : (c : tie.After-wide Inv-loop μ-loop) → c .wide .result < 1000
 row-in c = let l = c .before .before .before in omega (arith, c .wide .ensures, l .before .before .pre .0 (l .loop .k) (omega arith))
 
 loop-holds : tie.Need-loop-holds Inv-loop μ-loop
-loop-holds c = let s = c .before in (omega arith, flagging-none (s .pre .1) (s .pre .2))
+loop-holds c = let s = c .before in (omega arith, flagging-none (s .pre .1))
 
 loop-again : tie.Need-loop-again Inv-loop μ-loop
 loop-again c =

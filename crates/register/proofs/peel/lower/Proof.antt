@@ -6,25 +6,24 @@ use borrow.Author.Needs.{needs}
 use lib.ListN.{set}
 use mathlib.Core.Logic.{_≢_}
 use Rattle.pattern.specs.Places.{at}
-use Rattle.register.specs.Peel.{No-one}
-use Rattle.register.proofs.PeelCounts.{no-one-set}
+use Rattle.register.specs.Peel.{Searched}
+use Rattle.register.proofs.PeelCounts.{searched-set}
 use Rattle.register.proofs.peel.lower.Statement.{statement}
 use Rattle.register.proofs.peel.lower.Tie as tie
 
--- No count of one before `r` after it.
-lowered : (s : tie.Start) (r : ℕ) → r ≤ s .args .from → (s .args .t < r → at (s .args .counts .now) (s .args .t) - 1 ≢ 1)
-    → No-one (set (s .args .counts .now) (s .args .t) (at (s .args .counts .now) (s .args .t) - 1)) r
-lowered s r h f =
-    no-one-set (s .args .counts .now) (s .args .t) (at (s .args .counts .now) (s .args .t) - 1) r (omega arith) (λ u b. s .pre .3 u (omega arith)) f
+-- A search has come to `r` then.
+lowered : (s : tie.Start) (p r : ℕ) → p ≤ r → r ≤ s .args .from → (s .args .t < r → at (s .args .counts .now) (s .args .t) - 1 ≢ 1) → Searched (s .args .counts .now) p (s .args .from)
+    → Searched (set (s .args .counts .now) (s .args .t) (at (s .args .counts .now) (s .args .t) - 1)) p r
+lowered s p r = searched-set (s .args .t) (at (s .args .counts .now) (s .args .t) - 1) r (omega arith)
 
 returns : tie.Need-returns
-returns c = let s = c .before .before .before in (refl, lowered s (s .args .t) (omega arith) (λ b. absurd (omega arith)), omega arith)
+returns c = let s = c .before .before .before in (refl, omega arith, λ p h. lowered s p (s .args .t) h (omega arith) (λ b. absurd (omega arith)))
 
 returns-2 : tie.Need-returns-2
-returns-2 c = let s = c .before .before .before in (refl, lowered s (s .args .from) (omega arith) (λ b. absurd (omega arith)), omega arith)
+returns-2 c = let s = c .before .before .before in (refl, omega arith, λ p h N. lowered s p (s .args .from) (N .after) (omega arith) (λ b. absurd (omega arith)) N)
 
 returns-3 : tie.Need-returns-3
-returns-3 c = let s = c .before .before in (refl, lowered s (s .args .from) (omega arith) (λ b. c .if1 .left), omega arith)
+returns-3 c = let s = c .before .before in (refl, omega arith, λ p h N. lowered s p (s .args .from) (N .after) (omega arith) (λ b. c .if1 .left) N)
 
 pub lower-spec : {M : Type 1} → statement M
 lower-spec =

@@ -12,10 +12,10 @@ use Rattle.pattern.specs.Pattern.{column}
 use Rattle.pattern.specs.Places.{at}
 use Rattle.pattern.proofs.Tests.{true-T}
 use Rattle.register.specs.Listing.{part, parts}
-use Rattle.register.specs.Marks.{flagged, marked}
+use Rattle.register.specs.Marks.{flagged}
 use Rattle.register.specs.Order.{Placed}
 use Rattle.register.specs.Reach.{By-rows}
-use Rattle.register.proofs.Bools.{unmarked-none, unmarked-long, stored-flag}
+use Rattle.register.proofs.Bools.{stored-flag}
 use Rattle.register.proofs.Listings.{good-columns, good-within, good-column}
 use Rattle.register.proofs.Sweeping.{Sweeping, sweeping-none, sweeping-same, sweeping-more, sweeping-all}
 use Rattle.register.proofs.reach.reach.Statement.{statement}
@@ -31,15 +31,13 @@ abbrev μ-loop : tie.MeasureT-loop
 μ-loop m rs rc or old p marks₀ t₀ marks t = m - t
 
 loop-holds : tie.Need-loop-holds Inv-loop μ-loop
-unfolding marked
 loop-holds c =
-    let s = c .before .before .before .before .before in
-    let e = c .before .empty-marks .ensures in
-    let long : length (c .before .empty-marks .result .marks) ≡ 1024 = rw e unmarked-long in
-    let h = s .pre .1 .0 in (
+    let s = c .before .before .before in
+    let h = s .pre .1 .0 in
+    let marks = s .args .marks .now in (
       omega (arith, h),
-      length-set (c .before .empty-marks .result .marks) (s .args .p) true ∙ long,
-      λ col L S. sweeping-none (s .pre .0 .0) L S (s .args .p) h (rw e unmarked-none) (stored-flag (c .before .empty-marks .result .marks) (s .args .p) (omega (arith, h, s .pre .0 .0 .small)) long),
+      length-set marks (s .args .p) true ∙ s .pre .1 .2,
+      λ col L S. sweeping-none (s .pre .0 .0) L S (s .args .p) h (s .pre .1 .3) (stored-flag marks (s .args .p) (omega (arith, h, s .pre .0 .0 .small)) (s .pre .1 .2)),
     )
 
 -- The row of place t, and its columns.
@@ -52,15 +50,15 @@ module _ (s : tie.Start Inv-loop μ-loop) (t row : ℕ) (h : t < s .args .m) (er
 
 part-requires : tie.Need-part-requires Inv-loop μ-loop
 part-requires c κs =
-    let l = c .before .before .before .before in
-    let s = l .before .before .before .before .before .before in
+    let l = c .before .before .before .before .before in
+    let s = l .before .before .before .before in
     let b = row-in s (l .loop .t) (c .wide .result) (omega arith) (c .wide .ensures) in
     (omega (arith, b, s .pre .0 .0 .room .starts-long), good-within (s .pre .0 .0) (c .wide .result) b)
 
 mark-places-requires : tie.Need-mark-places-requires Inv-loop μ-loop
 mark-places-requires c κs =
-    let l = c .before .before .before .before .before .before in
-    let s = l .before .before .before .before .before .before in
+    let l = c .before .before .before .before .before .before .before in
+    let s = l .before .before .before .before in
     let w = c .before .before in
     let b = row-in s (l .loop .t) (w .wide .result) (omega arith) (w .wide .ensures) in (
       λ k h.
@@ -75,8 +73,8 @@ mark-places-requires c κs =
 loop-again : tie.Need-loop-again Inv-loop μ-loop
 unfolding flagged
 loop-again c =
-    let l = c .before .before in
-    let s = l .before .before .before .before .before .before in
+    let l = c .before .before .before in
+    let s = l .before .before .before .before in
     let G = s .pre .0 .0 in
     ⊎-elim
     (λ w. (
@@ -90,10 +88,9 @@ loop-again c =
     (c .if1 .came)
 
 returns : tie.Need-returns Inv-loop μ-loop
-unfolding marked
 returns c =
     let l = c .before in
-    let s = l .before .before .before .before .before .before in
+    let s = l .before .before .before .before in
     λ col L S. sweeping-all (s .pre .0 .0) L S (omega arith) (l .loop .inv .2 col L S)
 
 pub reach-spec : {M : Type 1} → statement M
@@ -102,10 +99,9 @@ reach-spec =
     (tie.spec
     Inv-loop
     μ-loop
-    (λ c κs. search needs)
-    (λ c. search needs)
+    (λ c. omega (arith, c .before .before .before .pre .1 .0, c .before .before .before .pre .0 .0 .small))
     loop-holds
-    (λ c. search needs)
+    (λ c. omega (arith, c .before .before .before .before .before .pre .0 .0 .small))
     (λ c. search needs)
     (λ c. search needs)
     (λ c κs. search needs)

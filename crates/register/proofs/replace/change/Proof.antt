@@ -1,5 +1,5 @@
 -- `change`: the judgment, and what is done after each verdict.
-use mathlib.Core.Path.{_≡_, refl, sym, ap, _∙_}
+use mathlib.Core.Path.{_≡_, sym, ap, _∙_}
 use Prim.Native.Nat.{ℕ, _<_}
 use native.Mathlib.Omega.{arith}
 use borrow.Author.Needs.{needs}
@@ -10,7 +10,6 @@ use Rattle.register.specs.Checks.{Call, call, New-fits}
 use Rattle.register.specs.Judge.{Judgeable}
 use Rattle.register.specs.Lent.{lists}
 use Rattle.register.specs.Limits.{max-size}
-use Rattle.register.specs.Listing.{between}
 use Rattle.register.specs.Replace.{asked}
 use Rattle.register.specs.Store.{joined}
 use Rattle.register.proofs.Changes.{Permutes, Eliminates, told-permuted, told-elimination, unchanged, spiked-room, changed-permuted, cleared-room, changed-elimination}

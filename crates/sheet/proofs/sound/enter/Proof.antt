@@ -5,8 +5,9 @@ use Prim.Native.Nat.{ℕ, _-_}
 use native.Mathlib.Omega.{arith}
 use borrow.Author.Needs.{needs}
 use Rattle.pattern.specs.Places.{at as stands}
+use Rattle.register.specs.Order.{Entered}
 use Rattle.register.proofs.Answers.{told-yes, told-no}
-use Rattle.register.proofs.Orders.{Entered, entered-none, entered-twice, entered-more, entered-all}
+use Rattle.register.proofs.Orders.{entered-none, entered-twice, entered-more, entered-all}
 use Rattle.sheet.specs.Passes.{thing}
 use Rattle.sheet.specs.Reading.{order-at}
 use Rattle.sheet.specs.Sheet.{firsts}
@@ -39,7 +40,7 @@ module _ (c : tie.After-known-pair Inv-loop μ-loop) where
   met = pair-met _ _ (head .loop .inv .0) (omega arith) _ _ (c .known-pair .ensures)
 
 loop-holds : tie.Need-loop-holds Inv-loop μ-loop
-loop-holds c = let s = c .before in (left-none (s .pre .0 .1), entered-none _ (s .pre .1 .0) (s .pre .1 .1))
+loop-holds c = let s = c .before in (left-none (s .pre .0 .1), entered-none _ (s .pre .1 .0) (λ x h. omega (arith, s .pre .1 .1 x h)))
 
 known-pair-requires : tie.Need-known-pair-requires Inv-loop μ-loop
 known-pair-requires c κs = pair-known _ _ (c .before .loop .inv .0) (omega arith)

@@ -7,17 +7,17 @@ use native.Mathlib.Omega.{arith}
 use lib.ListN.{length}
 use borrow.Author.Needs.{needs}
 use Rattle.pattern.specs.Places.{at}
-use Rattle.register.specs.Marks.{flagged, marked}
+use Rattle.register.specs.Marks.{flagged}
 use Rattle.register.specs.Sets.{counted}
 use Rattle.register.proofs.Counting.{counted-zero, counted-yes, counted-no}
-use Rattle.register.proofs.marks.Marks.hits.Statement.{statement}
-use Rattle.register.proofs.marks.Marks.hits.Tie as tie
+use Rattle.register.proofs.marks.hits.Statement.{statement}
+use Rattle.register.proofs.marks.hits.Tie as tie
 
 abbrev Inv-loop : tie.InvT-loop
-Inv-loop numbers places self sum₀ k₀ sum k = (k ≤ length numbers) × (sum ≤ k) × (sum ≡ counted (λ i. marked self (at places (at numbers i))) k)
+Inv-loop marks numbers places sum₀ k₀ sum k = (k ≤ length numbers) × (sum ≤ k) × (sum ≡ counted (λ i. flagged marks (at places (at numbers i))) k)
 
 abbrev μ-loop : tie.MeasureT-loop
-μ-loop numbers places self sum₀ k₀ sum k = length numbers - k
+μ-loop marks numbers places sum₀ k₀ sum k = length numbers - k
 
 number-in : (c : tie.After-wide Inv-loop μ-loop) → c .wide .result < 1000
 number-in c = let l = c .before .before .before in omega (arith, c .wide .ensures, l .before .before .pre (l .loop .k) (omega arith) .0)
@@ -36,16 +36,16 @@ module _ (c : tie.After-wide2 Inv-loop μ-loop) where
   mark-in = omega (arith, place-is, begun .pre (head .loop .k) (omega arith) .1)
 
 loop-holds : tie.Need-loop-holds Inv-loop μ-loop
-loop-holds c = let a = c .before .args in (omega arith, omega arith, sym (counted-zero (λ i. marked (a .t1) (at (a .places .now) (at (a .numbers .now) i)))))
+loop-holds c = let a = c .before .args in (omega arith, omega arith, sym (counted-zero (λ i. flagged (a .marks .now) (at (a .places .now) (at (a .numbers .now) i)))))
 
 loop-again : tie.Need-loop-again Inv-loop μ-loop
-unfolding flagged marked
+unfolding flagged
 loop-again c =
     let q = c .before .before in
     let l = head q .loop in
     let a = begun q .args in
-    let test : ℕ → Bool = λ i. marked (a .t1) (at (a .places .now) (at (a .numbers .now) i)) in
-    let z : test (l .k) ≡ marked (a .t1) (q .wide2 .result) = ap (marked (a .t1)) (sym (place-is q)) in
+    let test : ℕ → Bool = λ i. flagged (a .marks .now) (at (a .places .now) (at (a .numbers .now) i)) in
+    let z : test (l .k) ≡ flagged (a .marks .now) (q .wide2 .result) = ap (flagged (a .marks .now)) (sym (place-is q)) in
     ⊎-elim
     (λ w. (omega arith, omega arith, omega (arith, l .inv .2, counted-yes test (l .k) (z ∙ w .0 .taken))))
     (λ w. (omega arith, omega arith, omega (arith, l .inv .2, counted-no test (l .k) (z ∙ w .0 .left))))
@@ -56,7 +56,7 @@ returns c =
     let l = c .before in
     let a = l .before .before .args in
     let e : l .loop .k ≡ length (a .numbers .now) = omega arith in
-    l .loop .inv .2 ∙ ap (counted (λ i. marked (a .t1) (at (a .places .now) (at (a .numbers .now) i)))) e
+    l .loop .inv .2 ∙ ap (counted (λ i. flagged (a .marks .now) (at (a .places .now) (at (a .numbers .now) i)))) e
 
 pub hits-spec : {M : Type 1} → statement M
 hits-spec =

@@ -1,23 +1,22 @@
 -- `lay`: the numbers below x whose place is marked, but for place p, have been written.
-use mathlib.Core.Bool.{Bool}
 use mathlib.Core.Logic.{⊎-elim}
 use mathlib.Core.Path.{_≡_, refl, sym, ap, _∙_}
-use Prim.Native.Nat.{ℕ, _-_, _≤_, _<_}
+use Prim.Native.Nat.{_-_, _≤_, _<_}
 use native.Mathlib.Omega.{arith}
 use lib.ListN.{length}
 use borrow.Author.Needs.{needs}
 use Rattle.pattern.specs.Places.{at}
-use Rattle.register.specs.Marks.{flagged, marked}
+use Rattle.register.specs.Marks.{flagged}
 use Rattle.register.specs.Reach.{stands-at}
 use Rattle.register.proofs.Numbered.{Lain, lain-none, lain-room, lain-more, lain-same, stands-here, stands-off, stands-but}
-use Rattle.register.proofs.marks.Marks.lay.Statement.{statement}
-use Rattle.register.proofs.marks.Marks.lay.Tie as tie
+use Rattle.register.proofs.marks.lay.Statement.{statement}
+use Rattle.register.proofs.marks.lay.Tie as tie
 
 abbrev Inv-loop : tie.InvT-loop
-Inv-loop m places p list₀ self n₀ x₀ list n x = (x ≤ m) × Lain (stands-at (marked self) (at places) p) list₀ list n x
+Inv-loop marks m places p list₀ n₀ x₀ list n x = (x ≤ m) × Lain (stands-at (flagged marks) (at places) p) list₀ list n x
 
 abbrev μ-loop : tie.MeasureT-loop
-μ-loop m places p list₀ self n₀ x₀ list n x = m - x
+μ-loop marks m places p list₀ n₀ x₀ list n x = m - x
 
 -- A turn, at place t.
 module _ (c : tie.After-wide Inv-loop μ-loop) where
@@ -34,19 +33,19 @@ module _ (c : tie.After-wide Inv-loop μ-loop) where
   in-list = omega (arith, s .pre .1)
 
   room : head .loop .n < length (s .args .list .now)
-  room = lain-room (stands-at (marked (s .args .t1)) (at (s .args .places .now)) (s .args .p)) (s .args .list .now) (head .loop .inv .1) in-list
+  room = lain-room (stands-at (flagged (s .args .marks .now)) (at (s .args .places .now)) (s .args .p)) (s .args .list .now) (head .loop .inv .1) in-list
 
 loop-holds : tie.Need-loop-holds Inv-loop μ-loop
 loop-holds c = (omega arith, lain-none _ _)
 
 loop-again : tie.Need-loop-again Inv-loop μ-loop
-unfolding flagged marked
+unfolding flagged
 loop-again c =
     let w = c .before .before in
     let a = s w .args in
     let l = head w .loop in
     let x = l .x in
-    let p = marked (a .t1) in
+    let p = flagged (a .marks .now) in
     let f = at (a .places .now) in
     let test = stands-at p f (a .p) in
     let z : p (f x) ≡ p (w .wide .result) = ap p (sym (w .wide .ensures)) in
