@@ -4,7 +4,7 @@ use mathlib.Core.List.{List}
 use mathlib.Core.Logic.{⊎-elim}
 use mathlib.Core.Path.{_≡_, sym, ap, _∙_}
 use Prim.Native.Nat.{ℕ, _+_, _≤_, _<_, max}
-use native.Mathlib.Decide.{ℕ-discrete, decLt}
+use native.Mathlib.Decide.{ℕ-discrete}
 use native.Mathlib.Numerals.{add-one}
 use native.Mathlib.Omega.{arith}
 use lib.ListN.{length, take, set, length-set}
@@ -23,9 +23,16 @@ use Rattle.pattern.proofs.Search.{last-or}
 use Rattle.pattern.proofs.Tests.{has-among}
 use Rattle.pattern.proofs.Turning.{Columns, row-below}
 use Rattle.register.specs.Limits.{max-size}
-use Rattle.register.specs.Order.{Placed, Entered, Topped}
+use Rattle.register.specs.Order.{Placed, Topped}
 
 -- ---- Entering the places
+
+-- The places of the first `t` numbers have been entered; what stands for any other number is `max-size` or more, and no place.
+pub record Entered (m : ℕ) (f : ℕ → ℕ) (t : ℕ) (places : List ℕ) : Type 0 where
+  pub long : length places ≡ max-size
+  pub once : Once f t m
+  pub there : (s : ℕ) → s < t → at places (f s) ≡ s
+  pub back : (x : ℕ) → x < max-size → at places x < max-size → Among f t x
 
 module _ {m : ℕ} (f : ℕ → ℕ) where
   pub entered-none : {places : List ℕ} → length places ≡ max-size → ((x : ℕ) → x < max-size → max-size ≤ at places x) → Entered m f 0 places
@@ -35,14 +42,6 @@ module _ {m : ℕ} (f : ℕ → ℕ) where
     -- The next number has a place already.
     pub entered-twice : at places x < max-size → ¬ Once f m m
     entered-twice n o = let a = E .back x (omega arith) n in omega (arith, a .1, o .once (a .0) t (omega (arith, a .1)) ht (a .2 ∙ ex))
-
-    -- Where none of more numbers stands twice, it has none.
-    pub entered-left : {n : ℕ} → t < n → Once f n m → max-size ≤ at places x
-    entered-left u o = go (decLt (at places x) max-size)
-      where
-        go : Dec (at places x < max-size) → max-size ≤ at places x
-        go (yes k) = let a = E .back x (omega arith) k in absurd (omega (arith, a .1, o .once (a .0) t (omega (arith, a .1)) u (a .2 ∙ ex)))
-        go (no k) = omega arith
 
     -- It has none.
     pub entered-more : max-size ≤ at places x → Entered m f (t + 1) (set places x t)
@@ -64,10 +63,6 @@ module _ {m : ℕ} (f : ℕ → ℕ) where
         back y b n (yes z) = (t, omega arith, sym (z ∙ ex))
         back y b n (no z) = let a = E .back y b (omega (arith, getD-set-other places x y t 0 z)) in (a .0, omega (arith, a .1), a .2)
 
-  -- Where they are below `m`, the bound does not matter.
-  pub entered-below : {n k : ℕ} {places : List ℕ} → Once f n k → Entered m f n places → Entered k f n places
-  entered-below o E = record { long = E .long; once = o; there = E .there; back = E .back }
-
   -- The list has the number of each place.
   pub there-placed : {places : List ℕ} → length places ≡ max-size → Once f m m → ((t : ℕ) → t < m → at places (f t) ≡ t) → Placed m f places
   there-placed {places} long o there =
@@ -75,14 +70,6 @@ module _ {m : ℕ} (f : ℕ → ℕ) where
 
   pub entered-all : {places : List ℕ} → Entered m f m places → Placed m f places
   entered-all E = there-placed (E .long) (E .once) (E .there)
-
--- All numbers of an order have been entered.
-pub entered-placed : {m k : ℕ} {f : ℕ → ℕ} {places : List ℕ} → Once f m m → Entered k f m places → Placed m f places
-entered-placed {f = f} o E = entered-all f (entered-below f o E)
-
--- Fewer numbers under a greater bound.
-pub once-wide : {f : ℕ → ℕ} {n m k : ℕ} → n ≤ m → m ≤ k → Once f m m → Once f n k
-once-wide h b o = record { below = λ i u. omega (arith, o .below i (omega arith)); once = λ i j u v. o .once i j (omega arith) (omega arith) }
 
 -- A place is one.
 pub placed-below : {m : ℕ} {f : ℕ → ℕ} {places : List ℕ} → Placed m f places → (x : ℕ) → x < m → at places x < m

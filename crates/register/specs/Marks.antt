@@ -1,4 +1,4 @@
--- How marks are kept: the one file that knows. Rests on Limits.antt.
+-- Marks, which are kept as a list of flags. Rests on Limits.antt.
 use mathlib.Core.Bool.{Bool, false}
 use mathlib.Core.List.{List}
 use Prim.Native.Nat.{ℕ}

@@ -5,7 +5,7 @@ use mathlib.Core.Path.{_≡_}
 use Prim.Native.Nat.{ℕ, _+_, _<_}
 use lib.ListN.{length}
 use Rattle.pattern.specs.Pattern.{column}
-use Rattle.pattern.specs.Places.{at, Among, Once, place}
+use Rattle.pattern.specs.Places.{at, Once, place}
 use Rattle.pattern.specs.Series.{greatest}
 use Rattle.register.specs.Limits.{max-size}
 
@@ -14,14 +14,6 @@ pub record Placed (m : ℕ) (f : ℕ → ℕ) (places : List ℕ) : Type 0 where
   pub long : length places ≡ max-size
   pub once : Once f m m
   pub stand : (x : ℕ) → x < m → at places x ≡ place f m x
-
--- The list has the places of `f 0 .. f (n - 1)`, which are numbers below `m` and of which none stands twice. What stands
--- there for any other number is `max-size` or more, and no place.
-pub record Entered (m : ℕ) (f : ℕ → ℕ) (n : ℕ) (places : List ℕ) : Type 0 where
-  pub long : length places ≡ max-size
-  pub once : Once f n m
-  pub there : (s : ℕ) → s < n → at places (f s) ≡ s
-  pub back : (x : ℕ) → x < max-size → at places x < max-size → Among f n x
 
 -- Column `c` may stand at place `t` of an order: it is in range and has rows, and the greatest place among them is `t`.
 pub record Topped (m : ℕ) (places : List ℕ) (P : List (List ℕ)) (c t : ℕ) : Type 0 where

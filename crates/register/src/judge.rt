@@ -6,7 +6,7 @@ use crate::Register;
 use crate::marks::Marks;
 use crate::marks::hits;
 use crate::marks::lay;
-use crate::order::enter_first;
+use crate::order::place_all;
 use crate::order::top_place;
 use crate::peel::peel;
 use crate::reach::reach;
@@ -79,7 +79,7 @@ pub fn judge(
         if peel(m, cs, cr, rs, rc, or, oc, c, new, p, counts, old, places) {
             return Judgment::Permuted;
         }
-        enter_first(m, or, places);
+        place_all(m, or, places);
     }
     eliminate(m, new, p, &marks, places, eta)
 }

@@ -1,5 +1,5 @@
-// Marks on the numbers below 1,024, one for each. A struct that holds them is copied when it is passed by value, so they are lent
-// to whatever sets many or asks many. Only specs/Marks.antt knows how marks are kept.
+// Marks on the numbers below 1,024: a flag for each. A struct that holds them is copied when it is passed by value, so the flags are
+// lent to whatever sets many or asks many.
 use crate::Register;
 use crate::wide::wide;
 ghost use mathlib.Core.Path.{_≡_};

@@ -13,7 +13,7 @@ ghost use Rattle.pattern.specs.Series.{greatest};
 ghost use Rattle.register.specs.Limits.{max-size};
 ghost use Rattle.register.specs.Says.{Told, Says};
 ghost use Rattle.register.specs.Listing.{parts, Good};
-ghost use Rattle.register.specs.Order.{Placed, Entered, Tops, At-top};
+ghost use Rattle.register.specs.Order.{Placed, Tops, At-top};
 
 // What stands in the scratch list for a number that has no place.
 pub const NOWHERE: u16 = 1000;
@@ -51,14 +51,13 @@ pub fn clear(places: &mut [u16; Register::MAX_SIZE])
     }
 }
 
-// Enters the places of the first n numbers, of which none stands twice. No other number has one then.
-pub fn enter_first(n: usize, numbers: &[u16], places: &mut [u16; Register::MAX_SIZE])
-    requires { ⌜ (n ≤ max-size) × (n ≤ length (now numbers)) × Once (at (now numbers)) n max-size × (length (now places) ≡ max-size) ⌝ }
-    ensures { λ _. ⌜ Entered max-size (at (now (numbers .entry))) n (now (places .exit)) ⌝ }
+// The place of each number, where each stands once.
+pub fn place_all(m: usize, numbers: &[u16], places: &mut [u16; Register::MAX_SIZE])
+    requires { ⌜ (m ≤ max-size) × (m ≤ length (now numbers)) × Once (at (now numbers)) m m × (length (now places) ≡ max-size) ⌝ }
+    ensures { λ _. ⌜ Placed m (at (now (numbers .entry))) (now (places .exit)) ⌝ }
 {
-    clear(places);
     let mut t = 0;
-    while t < n {
+    while t < m {
         places[wide(numbers[t])] = t as u16;
         t += 1;
     }

@@ -25,7 +25,7 @@ use Rattle.register.specs.Sets.{counted}
 use Rattle.register.proofs.Bools.{unmarked-flags, unmarked-long}
 use Rattle.register.proofs.Counting.{counted-some, counted-two, some-counted}
 use Rattle.register.proofs.Judging.{rows-sound, Met, judged-permuted, judged-singular, two-met, c-before-top, judged-elimination}
-use Rattle.register.proofs.Orders.{entered-placed, once-wide, placed-below}
+use Rattle.register.proofs.Orders.{placed-below}
 use Rattle.register.proofs.Rises.{rising-once}
 use Rattle.register.proofs.Soundness.{columns-good, rows-good}
 use Rattle.register.proofs.judge.judge.Statement.{statement}
@@ -132,11 +132,11 @@ peel-requires c κs =
 returns-2 : tie.Need-returns-2
 returns-2 c = let k = c .before .peel .ensures in (judged-permuted (J (c .before .before .before .before .before .before .before .before .before .before .before .before .before .before .before .before .before .before .before .before .before .before .before)) (k .0 .yes (c .if3 .taken)), k .1)
 
-enter-first-requires : tie.Need-enter-first-requires
-enter-first-requires c κs =
+place-all-requires : tie.Need-place-all-requires
+place-all-requires c κs =
     let s = c .before .before .before .before .before .before .before .before .before .before .before .before .before .before .before .before .before .before .before .before .before .before .before .before in
     let L = J s .sound in
-    (L .sized .1, L .long .order-rows-fit, once-wide (omega arith) (L .sized .1) (L .order .rows), c .before .before .peel .ensures .1)
+    (L .sized .1, L .long .order-rows-fit, L .order .rows, c .before .before .peel .ensures .1)
 
 -- What is known where the ways join.
 module _ (c : tie.Joined2) where
@@ -152,7 +152,7 @@ module _ (c : tie.Joined2) where
   placed : Rows-placed (c .if2 .places)
   placed =
       ⊎-elim
-      (λ w. subst Rows-placed (sym (w .10)) (entered-placed (J (begun hit) .sound .order .rows) (w .7 .ensures)))
+      (λ w. subst Rows-placed (sym (w .10)) (w .7 .ensures))
       (λ w. subst Rows-placed (sym (w .3)) (rows-placed (begun hit)))
       (c .if2 .came)
 
@@ -184,7 +184,7 @@ judge-spec =
     returns
     peel-requires
     returns-2
-    enter-first-requires
+    place-all-requires
     eliminate-requires
     (λ c. search needs)
     returns-3)
