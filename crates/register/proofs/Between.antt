@@ -1,11 +1,10 @@
 -- What stands between two places of a list. Rests on specs/Listing.antt.
 use mathlib.Core.List.{List, [], _∷_, _++_}
-use mathlib.Core.Path.{_≡_, sym, ap, ap₂, _∙_}
+use mathlib.Core.Path.{_≡_, sym, ap, _∙_}
 use Prim.Native.Nat.{ℕ, _+_, _-_, _≤_, _<_, suc}
-use native.Mathlib.Numerals.{add-one}
 use native.Mathlib.Omega.{arith}
 use lib.ListN.{length, take, drop, length-take, length-drop}
-use lib.Seq.{ext-getD, getD-take, getD-drop, take-suc, take-add, drop-drop, drop-cons}
+use lib.Seq.{ext-getD, getD-take, getD-drop, take-suc, take-add, drop-drop}
 use Rattle.pattern.specs.Places.{at}
 use Rattle.register.specs.Listing.{between}
 
@@ -22,13 +21,7 @@ between-front n l = let e : n - 0 ≡ n = omega arith in ap (λ (k : ℕ). take 
 pub between-none : (a : ℕ) (l : List ℕ) → between a a l ≡ []
 between-none a l = let e : a - a ≡ 0 = omega arith in ap (λ (n : ℕ). take n (drop a l)) e
 
--- One number more, at the beginning or at the end.
-pub between-first : (a b : ℕ) (l : List ℕ) → a < b → b ≤ length l → between a b l ≡ at l a ∷ between (a + 1) b l
-between-first a b l h k =
-    let n : b - a ≡ suc (b - (a + 1)) = omega arith in
-    ap₂ (λ (n : ℕ) (j : List ℕ). take n j) n (drop-cons l a 0 (omega arith))
-    ∙ ap (λ (i : ℕ). at l a ∷ take (b - (a + 1)) (drop i l)) (sym (add-one a))
-
+-- One number more, and one alone.
 pub between-more : (a b : ℕ) (l : List ℕ) → a ≤ b → b < length l → between a (b + 1) l ≡ between a b l ++ (at l b ∷ [])
 between-more a b l h k =
     let n : b + 1 - a ≡ suc (b - a) = omega arith in
@@ -36,6 +29,9 @@ between-more a b l h k =
     ap (λ (n : ℕ). take n (drop a l)) n
     ∙ take-suc (drop a l) (b - a) 0 (omega (arith, length-drop a l))
     ∙ ap (λ (x : ℕ). between a b l ++ (x ∷ [])) (getD-drop a l (b - a) 0 ∙ ap (at l) e)
+
+pub between-one : (a : ℕ) (l : List ℕ) → a < length l → between a (a + 1) l ≡ at l a ∷ []
+between-one a l h = between-more a a l (omega arith) h ∙ ap (λ (j : List ℕ). j ++ (at l a ∷ [])) (between-none a l)
 
 -- Lists that agree there have the same there.
 pub between-same : (a b : ℕ) (k l : List ℕ) → b ≤ length k → b ≤ length l → ((i : ℕ) → a ≤ i → i < b → at k i ≡ at l i) → between a b k ≡ between a b l

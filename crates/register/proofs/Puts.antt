@@ -1,7 +1,7 @@
 -- A list written over another from a place on: what it leaves, one number more, and one such list over another.
--- Rests on Holding.antt.
+-- Rests on Between.antt and Holding.antt.
 use mathlib.Core.List.{List, [], _∷_, _++_, append-assoc}
-use mathlib.Core.Path.{_≡_, sym, ap, ap₂, _∙_}
+use mathlib.Core.Path.{_≡_, refl, sym, ap, ap₂, _∙_}
 use Prim.Native.Nat.{ℕ, suc, _+_, _-_, _≤_, _<_}
 use native.Mathlib.Numerals.{add-one}
 use native.Mathlib.Omega.{arith}
@@ -22,6 +22,8 @@ use lib.Seq.{
 }
 use Rattle.pattern.specs.Places.{at}
 use Rattle.register.specs.Held.{over, put}
+use Rattle.register.specs.Listing.{between}
+use Rattle.register.proofs.Between.{between-front}
 use Rattle.register.proofs.Holding.{over-rest, over-length}
 
 -- ---- Over the beginning
@@ -45,6 +47,10 @@ put-over first new old k e =
     ∙ sym (append-assoc first new (drop (length new) (drop (length first) old)))
     ∙ ap (λ (l : List ℕ). (first ++ new) ++ l)
     (drop-drop (length new) (length first) old ∙ ap (λ (n : ℕ). drop n old) (sym (length-append first new)))
+
+-- At the beginning it is read off again.
+pub put-read : (new old : List ℕ) → between 0 (length new) (put 0 new old) ≡ new
+put-read new old = between-front (length new) (over new old) ∙ take-at new (drop (length new) old) (length new) refl
 
 -- ---- From place `k` on
 
@@ -91,6 +97,9 @@ put-more k new l i v e h =
         let n : k + length (new ++ (v ∷ [])) ≡ suc i = omega (arith, length-append new (v ∷ [])) in
         drop-drop (length (new ++ (v ∷ []))) k l ∙ ap (λ (n : ℕ). drop n l) n
 
+pub put-one : (k : ℕ) (l : List ℕ) (v : ℕ) → k < length l → set l k v ≡ put k (v ∷ []) l
+put-one k l v h = ap (λ (j : List ℕ). set j k v) (sym (put-none k l)) ∙ put-more k [] l k v (omega arith) h
+
 -- And in front.
 pub put-front : (k : ℕ) (new l : List ℕ) (v : ℕ) → k < length l → set (put (k + 1) new l) k v ≡ put k (v ∷ new) l
 put-front k new l v h =
@@ -99,6 +108,14 @@ put-front k new l v h =
     ∙ ap (λ (j : List ℕ). set j k v) (append-snoc (take k l) (at l k) (over new (drop (suc k) l)))
     ∙ set-at (take k l) (at l k) (over new (drop (suc k) l)) v k (length-take-le k l (omega arith))
     ∙ ap (λ (j : List ℕ). take k l ++ (v ∷ (new ++ drop (suc (length new)) j))) (sym (drop-cons l k 0 h))
+
+-- Behind what has been written.
+pub put-behind : (k : ℕ) (new more l : List ℕ) (i : ℕ) → i ≡ k + length new → k ≤ length l → put i more (put k new l) ≡ put k (new ++ more) l
+put-behind k new more l i e h =
+    ap (put i more) (put-is-over k new l h)
+    ∙ put-over (take k l ++ new) more l i (e ∙ omega (arith, length-append (take k l) new, length-take-le k l h))
+    ∙ ap (λ (j : List ℕ). over j l) (append-assoc (take k l) new more)
+    ∙ sym (put-is-over k (new ++ more) l h)
 
 -- In front of what has been written further on.
 pub put-put : (k : ℕ) (new more l : List ℕ) (i : ℕ) → i ≡ k + length new → i ≤ length l → put k new (put i more l) ≡ put k (new ++ more) l

@@ -3,11 +3,10 @@ use mathlib.Core.Bool.{Bool, true, false, cond}
 use mathlib.Core.List.{List, [], _∷_, _++_}
 use mathlib.Core.Logic.{_≢_, ⊎-elim}
 use mathlib.Core.Path.{_≡_, refl, sym, ap, _∙_}
-use Prim.Native.Nat.{ℕ, _≤_}
+use Prim.Native.Nat.{ℕ}
 use native.Mathlib.Decide.{ℕ-discrete}
 use native.Mathlib.Omega.{arith}
 use lib.Dec.{T, eqb}
-use lib.ListN.{length}
 use Rattle.pattern.specs.Pattern.{has}
 use Rattle.pattern.specs.Rising.{Rising}
 use Rattle.pattern.proofs.Rises.{rising-none, rising-tail, rising-after, rising-front}
@@ -19,7 +18,7 @@ module _ (r x : ℕ) (l : List ℕ) where
   pub without-struck : x ≡ r → without r (x ∷ l) ≡ without r l
   without-struck e = choose-same x r (without r l) (x ∷ without r l) e
 
-  pub without-kept : x ≢ r → without r (x ∷ l) ≡ x ∷ without r l
+  without-kept : x ≢ r → without r (x ∷ l) ≡ x ∷ without r l
   without-kept n = choose-other x r (without r l) (x ∷ without r l) n
 
 -- It has the numbers of the list, but `r`.
@@ -58,7 +57,7 @@ without-rises {m} r (x ∷ l) s = go (ℕ-discrete x r) (without-rises r l (risi
     go (yes e) t = rw (without-struck r x l e) t
     go (no n) t = rw (without-kept r x l n) (rising-front (s .below 0 (omega arith)) (λ y u. rising-after s y (without-has r l y u .0)) t)
 
--- Of two lists one after the other, and how many are left.
+-- Of two lists one after the other.
 pub without-append : (r : ℕ) (k l : List ℕ) → without r (k ++ l) ≡ without r k ++ without r l
 without-append r [] l = refl
 without-append r (x ∷ k) l = go (eqb x r) (without-append r k l)
@@ -67,11 +66,3 @@ without-append r (x ∷ k) l = go (eqb x r) (without-append r k l)
         → cond b (without r (k ++ l)) (x ∷ without r (k ++ l)) ≡ cond b (without r k) (x ∷ without r k) ++ without r l
     go true e = e
     go false e = ap (λ (j : List ℕ). x ∷ j) e
-
-pub without-few : (r : ℕ) (l : List ℕ) → length (without r l) ≤ length l
-without-few r [] = omega arith
-without-few r (x ∷ l) = go (eqb x r) (without-few r l)
-  where
-    go : (b : Bool) → length (without r l) ≤ length l → length (cond b (without r l) (x ∷ without r l)) ≤ length (x ∷ l)
-    go true h = omega arith
-    go false h = omega arith

@@ -1,4 +1,4 @@
--- The places of the reached columns, for the contracts of the steps of `reach`. Rests on Sets.antt and `pattern`.
+-- The places of the reached columns, for the contracts of the sweep that finds them. Rests on Sets.antt and `pattern`.
 use mathlib.Core.Bool.{Bool, not, _&&_}
 use mathlib.Core.List.{List}
 use mathlib.Core.Logic.{_↔_, _⊎_}
@@ -6,11 +6,10 @@ use mathlib.Core.Path.{_≡_}
 use Prim.Native.Nat.{ℕ, _<_}
 use lib.Dec.{T, eqb}
 use lib.ListN.{length}
-use Rattle.pattern.specs.Pattern.{Pattern, has, Entry}
-use Rattle.pattern.specs.Places.{at}
+use Rattle.pattern.specs.Pattern.{Pattern, has, column, Entry}
+use Rattle.pattern.specs.Places.{at, place}
 use Rattle.pattern.specs.Reach.{Reach}
 use Rattle.register.specs.Limits.{max-size, max-mark}
-use Rattle.register.specs.Sets.{Only-below}
 
 -- The pattern that the columns of each row make.
 abbrev pub By-rows : List (List ℕ) → Pattern
@@ -24,10 +23,12 @@ Markable places l = (k : ℕ) → k < length l → (at l k < max-size) × (at pl
 pub record With-places (p q : ℕ → Bool) (place : ℕ → ℕ) (l : List ℕ) : Type 0 where
   pub are : (k : ℕ) → k < max-mark → T (q k) ↔ (T (p k) ⊎ ((x : ℕ) × T (has l x) × (place x ≡ k)))
 
--- The set has the old places of the columns of Reach(c).
-pub record Reached (E : Pattern) (m : ℕ) (row col : ℕ → ℕ) (c : ℕ) (p : ℕ → Bool) : Type 0 where
-  pub below : Only-below p m
-  pub are : (t : ℕ) → t < m → T (p t) ↔ Reach E m row col c (col t)
+-- The places before `t` have been swept: the set has c's place, places of reached columns only, and for each of its places before `t` the
+-- places of all columns of the row there. `Q` has the columns of each row.
+pub record Swept (m : ℕ) (Q : List (List ℕ)) (row col : ℕ → ℕ) (c t : ℕ) (p : ℕ → Bool) : Type 0 where
+  pub reach : (k : ℕ) → k < m → T (p k) → Reach (By-rows Q) m row col c (col k)
+  pub start : (place col m c < m) × T (p (place col m c))
+  pub gone : (k : ℕ) → k < t → T (p k) → (y : ℕ) → T (has (column Q (row k)) y) → T (p (place col m y))
 
 -- Whether the place that `f` gives a number is of the set, but for place `t`.
 unfoldable pub stands-at : (ℕ → Bool) → (f : ℕ → ℕ) (t : ℕ) → ℕ → Bool

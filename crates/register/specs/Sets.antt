@@ -3,7 +3,7 @@
 use mathlib.Core.Bool.{Bool, true, false}
 use mathlib.Core.Logic.{_≢_}
 use mathlib.Core.Path.{_≡_}
-use Prim.Native.Nat.{ℕ, _≤_, _<_}
+use Prim.Native.Nat.{ℕ, _<_}
 use Rattle.pattern.specs.Series.{tally}
 use Rattle.register.specs.Limits.{max-mark}
 
@@ -11,10 +11,6 @@ use Rattle.register.specs.Limits.{max-mark}
 pub record With (p q : ℕ → Bool) (i : ℕ) : Type 0 where
   pub here : q i ≡ true
   pub others : (k : ℕ) → k < max-mark → k ≢ i → q k ≡ p k
-
--- The set has numbers below `m` only.
-abbrev pub Only-below : (ℕ → Bool) → ℕ → Type 0
-Only-below p m = (k : ℕ) → m ≤ k → k < max-mark → p k ≡ false
 
 -- 1 for a number that is in the set, and 0 for one that is not.
 abbrev pub one : Bool → ℕ

@@ -2,12 +2,14 @@
 -- Listing.antt, Walk.antt and `pattern`.
 use mathlib.Core.Bool.{cond, _||_}
 use mathlib.Core.List.{List, [], _∷_}
+use mathlib.Core.Logic.{_≢_, _⊎_}
 use mathlib.Core.Path.{_≡_}
 use Prim.Native.Nat.{ℕ, _+_, _-_, _≤_, _<_}
-use lib.Dec.{eqb}
+use lib.Dec.{T, eqb}
 use lib.ListN.{length, set}
-use Rattle.pattern.specs.Pattern.{has, column}
+use Rattle.pattern.specs.Pattern.{has, column, Entry}
 use Rattle.pattern.specs.Places.{at}
+use Rattle.pattern.specs.Rising.{Rising}
 use Rattle.pattern.specs.Series.{each, numbers}
 use Rattle.register.specs.Held.{put}
 use Rattle.register.specs.Listing.{between, part}
@@ -40,6 +42,19 @@ pub record Raised (c m n : ℕ) (starts starts′ : List ℕ) : Type 0 where
   pub before : (k : ℕ) → k ≤ c → at starts′ k ≡ at starts k
   pub after : (k : ℕ) → c < k → k ≤ m → at starts′ k ≡ at starts k + n
 
+-- The starts of the places `a` up to `b` are `n` less.
+pub record Lowered (a b n : ℕ) (starts starts′ : List ℕ) : Type 0 where
+  pub long : length starts′ ≡ length starts
+  pub others : (k : ℕ) → (k < a) ⊎ (b ≤ k) → at starts′ k ≡ at starts k
+  pub less : (k : ℕ) → a ≤ k → k < b → at starts′ k + n ≡ at starts k
+
+-- The parts of which something is to be deleted: part `c`, and those that have the number `r`.
+pub record Changing (m : ℕ) (P : List (List ℕ)) (c r : ℕ) (these : List ℕ) : Type 0 where
+  pub rise : Rising m these
+  pub whole : c < m → T (has these c)
+  pub having : (k : ℕ) → Entry P r k → T (has these k)
+  pub only : (k : ℕ) → T (has these k) → (k ≡ c) ⊎ Entry P r k
+
 -- The numbers below `m` that are `c` or stand in a list, in rising order.
 abbrev pub joined : (m c : ℕ) → List ℕ → List ℕ
 joined m c l = numbers (λ k. eqb k c || has l k) m
@@ -62,3 +77,8 @@ pub record Let-in (c k end top i : ℕ) (starts entries starts′ entries′ : L
   pub cut : Cut c (q - at starts k) (part starts entries k)
   pub entries-now : entries′ ≡ put (q + i) (c ∷ between q end entries) entries
   pub raised : Raised k top (i + 1) starts starts′
+
+-- The places of part `k` that are to be deleted: all of part `c`, and the place of `r` in another.
+pub record Piece (c r k : ℕ) (starts entries : List ℕ) (from to : ℕ) : Type 0 where
+  pub all : k ≡ c → (from ≡ at starts k) × (to ≡ at starts (k + 1))
+  pub one : k ≢ c → (at starts k ≤ from) × Cut r (from - at starts k) (part starts entries k) × (to ≡ from + 1)

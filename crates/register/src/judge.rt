@@ -1,6 +1,7 @@
 // The judgment on a replacement: the verdict, with the new places of rows and columns or the eta rows. No list of the register
 // changes. The new rows that are paired with reached columns tell the verdict but where there is one of them: none, and no full choice
-// is left; two, and two are left, of which a triangular pattern has one.
+// is left; two, and two are left, of which a triangular pattern has one. Their places lie before the window's end, so the rest of the
+// reach is swept for the eta rows alone.
 use crate::Judgment;
 use crate::Register;
 use crate::marks::Marks;
@@ -9,7 +10,8 @@ use crate::marks::lay;
 use crate::order::place_all;
 use crate::order::top_place;
 use crate::peel::peel;
-use crate::reach::reach;
+use crate::peel::window_end;
+use crate::reach::sweep;
 ghost use mathlib.Core.Path.{_≡_};
 ghost use Prim.Native.Nat.{ℕ, _≤_, _<_};
 ghost use lib.ListN.{length};
@@ -43,7 +45,7 @@ fn eliminate(
 }
 
 // The judgment on column c, at place p, with the new rows. `places` has the place of each row and `old` that of each column, and
-// after PERMUTED their new ones. The counts are lent for the peel.
+// after PERMUTED their new ones. The counts are lent for the peel, which spoils the places where it fails, so that they are laid anew.
 pub fn judge(
     m: usize,
     cs: &[u16],
@@ -66,11 +68,13 @@ pub fn judge(
         (call m (lists (now (cs .entry)) (now (cr .entry)) (now (rs .entry)) (now (rc .entry)) (now (or .entry)) (now (oc .entry)))
         c (now (new .entry)) (now (eta .entry)))
         (now (places .exit)) (now (old .exit)) (now (eta .exit)) r ⌝ }
-    ensures { λ _. ⌜ length (now (places .exit)) ≡ max-size ⌝ }
+    ensures { λ _. ⌜ (length (now (places .exit)) ≡ max-size) × (length (now (counts .exit)) ≡ max-size) ⌝ }
 {
     let empty = Register::empty_marks();
     let mut marks = empty.marks;
-    reach(m, rs, rc, or, old, p, &mut marks);
+    marks[p] = true;
+    let end = window_end(p, new, places);
+    sweep(m, rs, rc, or, old, p, end, &mut marks);
     let met = hits(&marks, new, places);
     if met == 0 {
         return Judgment::Singular;
@@ -80,6 +84,8 @@ pub fn judge(
             return Judgment::Permuted;
         }
         place_all(m, or, places);
+        place_all(m, oc, old);
     }
+    sweep(m, rs, rc, or, old, end, m, &mut marks);
     eliminate(m, new, p, &marks, places, eta)
 }

@@ -6,6 +6,7 @@ mod judge;
 mod listing;
 mod look;
 mod marks;
+mod moves;
 mod order;
 mod peel;
 mod reach;

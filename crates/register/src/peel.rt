@@ -26,7 +26,7 @@ ghost use Rattle.register.specs.Peel.{spiked, spiked-part, unplaced, Row
 const NEW: u16 = 1001;
 
 // The end of the window: the place after p and after those of all new rows.
-fn window_end(p: usize, new: &[u16], places: &[u16; Register::MAX_SIZE]) -> usize
+pub fn window_end(p: usize, new: &[u16], places: &[u16; Register::MAX_SIZE]) -> usize
     requires { ⌜ (p < max-size) × Rows-low (now new) × ((x : ℕ) → T (has (now new) x) → at (now places) x < max-size) ⌝ }
     ensures { λ r. ⌜ r ≡ window-end (now (places .entry)) (now (new .entry)) p ⌝ }
 {
@@ -235,7 +235,7 @@ pub fn peel(
     ensures { λ full. ⌜ Told full
         (Peeled m (spiked m (now (cs .entry)) (now (cr .entry)) c (now (new .entry))) (at (now (oc .entry))) (now (places .exit)) (now (old .exit)))
         (¬ Triangular (Entry (spiked m (now (cs .entry)) (now (cr .entry)) c (now (new .entry)))) m) ⌝ }
-    ensures { λ _. ⌜ length (now (places .exit)) ≡ max-size ⌝ }
+    ensures { λ _. ⌜ (length (now (places .exit)) ≡ max-size) × (length (now (old .exit)) ≡ max-size) × (length (now (counts .exit)) ≡ max-size) ⌝ }
 {
     let end = window_end(p, new, places);
     free(p, end, or, places);

@@ -69,14 +69,14 @@ fn change(
     match judgment {
         Judgment::Singular => {}
         Judgment::Permuted => {
-            store(m, cs, cr, rs, rc, c, m, new);
+            store(m, cs, cr, rs, rc, c, m, new, counts);
             lay_order(m, places, or);
             lay_order(m, old, oc);
         }
         Judgment::Elimination { bump, eta_count } => {
             let r = wide(or[p]);
             let n = join(new, r, places);
-            store(m, cs, cr, rs, rc, c, r, first(places, n));
+            store(m, cs, cr, rs, rc, c, r, first(places, n), counts);
             move_last(m, p, or);
             move_last(m, p, oc);
         }

@@ -1,9 +1,17 @@
 // A column exchanged in both listings. In each the old column, and a row where one is to be cleared, are deleted in one pass
 // forward, and then the new column is inserted: so nothing past the new total is ever written.
+use crate::Register;
 use crate::join::below;
 use crate::join::copy;
+use crate::join::first;
 use crate::listing::part;
+use crate::look::Span;
+use crate::moves::lower;
+use crate::moves::move_down;
+use crate::moves::move_up;
+use crate::moves::raise;
 use crate::wide::wide;
+ghost use mathlib.Core.List.{[], _∷_};
 ghost use mathlib.Core.Path.{_≡_};
 ghost use Prim.Native.Nat.{ℕ, _+_, _≤_, _<_};
 ghost use lib.ListN.{length};
@@ -12,74 +20,75 @@ ghost use Rattle.pattern.specs.Pattern.{Entry};
 ghost use Rattle.pattern.specs.Places.{at};
 ghost use Rattle.pattern.specs.Rising.{Rising};
 ghost use Rattle.pattern.specs.Turned.{turned, Same-entries};
-ghost use Rattle.register.specs.Held.{put, Held};
+ghost use Rattle.register.specs.Held.{Held};
 ghost use Rattle.register.specs.Limits.{max-size, max-total};
-ghost use Rattle.register.specs.Listing.{between, parts, Within, Good};
-ghost use Rattle.register.specs.Store.{without, emptied, filled, exchanged, spread, Raised, Let-in};
+ghost use Rattle.register.specs.Listing.{between, part, parts, Within, Good};
+ghost use Rattle.register.specs.Store.{emptied, filled, exchanged, spread, Changing, Let-in, Piece};
 
-// The entries of the places `from` up to `to` other than r go down to place `into` on; replies where they end.
-fn move_down(entries: &mut [u16], from: usize, to: usize, into: usize, r: usize) -> usize
-    requires { ⌜ (into ≤ from) × (from ≤ to) × (to ≤ length (now entries)) ⌝ }
-    ensures { λ end. ⌜ (end ≡ into + length (without r (between from to (now (entries .entry)))))
-        × (now (entries .exit) ≡ put into (without r (between from to (now (entries .entry)))) (now (entries .entry))) ⌝ }
+// What is deleted of part k: all of part c, and of another part the number r, which it has.
+fn piece(starts: &[u16], entries: &[u16], c: usize, r: usize, k: usize) -> Span
+    requires { ⌜ (k + 1 < length (now starts)) × Within (now starts) (now entries) k ⌝ }
+    ensures { λ s. ⌜ Piece c r k (now (starts .entry)) (now (entries .entry)) (s .from) (s .to) ⌝ }
 {
-    let mut end = into;
-    let mut k = from;
-    while k < to {
-        let x = entries[k];
-        if wide(x) != r {
-            entries[end] = x;
-            end += 1;
-        }
-        k += 1;
+    let from = wide(starts[k]);
+    if k == c {
+        return Span {
+            from,
+            to: wide(starts[k + 1]),
+        };
     }
-    end
+    let q = from + below(part(starts, entries, k), r);
+    Span { from: q, to: q + 1 }
 }
 
-// The entries of the places `from` up to `to` go up by n places, the last first.
-fn move_up(entries: &mut [u16], from: usize, to: usize, n: usize)
-    requires { ⌜ (from ≤ to) × (to + n ≤ length (now entries)) ⌝ }
-    ensures { λ _. ⌜ now (entries .exit) ≡ put (from + n) (between from to (now (entries .entry))) (now (entries .entry)) ⌝ }
+// Deletes all of part c, and the number r where it is. These are the parts that change; what stands between two deleted pieces
+// goes down as one.
+fn take_out(m: usize, starts: &mut [u16], entries: &mut [u16], c: usize, r: usize, these: &[u16])
+    requires { ⌜ Good m (now starts) (now entries) × Changing m (parts m (now starts) (now entries)) c r (now these) ⌝ }
+    ensures { λ _. ⌜ Held (emptied m (parts m (now (starts .entry)) (now (entries .entry))) c r)
+        (now (starts .entry)) (now (entries .entry)) (now (starts .exit)) (now (entries .exit)) ⌝ }
 {
-    let mut k = to;
-    while from < k {
-        k -= 1;
-        entries[k + n] = entries[k];
-    }
-}
-
-// The starts past start c, up to start m, are n more.
-fn raise(starts: &mut [u16], c: usize, m: usize, n: usize)
-    requires { ⌜ (c ≤ m) × (m < length (now starts)) × ((k : ℕ) → k ≤ m → at (now starts) k + n ≤ max-total) ⌝ }
-    ensures { λ _. ⌜ Raised c m n (now (starts .entry)) (now (starts .exit)) ⌝ }
-{
-    let by = n as u16;
-    let mut k = c;
-    while k < m {
-        k += 1;
-        let s = starts[k];
-        starts[k] = s + by;
-    }
-}
-
-// Deletes the entries of column c, and those of row r; the rest of each column goes down to where the one before ends.
-fn take_out(m: usize, cs: &mut [u16], cr: &mut [u16], c: usize, r: usize)
-    requires { ⌜ Good m (now cs) (now cr) ⌝ }
-    ensures { λ _. ⌜ Held (emptied m (parts m (now (cs .entry)) (now (cr .entry))) c r)
-        (now (cs .entry)) (now (cr .entry)) (now (cs .exit)) (now (cr .exit)) ⌝ }
-{
-    let mut end: usize = 0;
     let mut from: usize = 0;
-    let mut k = 0;
-    while k < m {
-        let to = wide(cs[k + 1]);
-        if k != c {
-            end = move_down(cr, from, to, end, r);
-        }
-        cs[k + 1] = end as u16;
-        from = to;
-        k += 1;
+    let mut k: usize = 0;
+    let mut gone: usize = 0;
+    let mut i: usize = 0;
+    while i < these.len() {
+        let j = wide(these[i]);
+        let out = piece(starts, entries, c, r, j);
+        move_down(entries, from, out.from, from - gone);
+        lower(starts, k, j + 1, gone);
+        gone += out.to - out.from;
+        from = out.to;
+        k = j + 1;
+        i += 1;
     }
+    let end = wide(starts[m]);
+    move_down(entries, from, end, from - gone);
+    lower(starts, k, m + 1, gone);
+}
+
+// Writes the columns that change, at the head of a list: those of row r, or column c alone where no row is to be cleared. Replies
+// how many they are.
+fn changing(
+    m: usize,
+    rs: &[u16],
+    rc: &[u16],
+    c: usize,
+    r: usize,
+    list: &mut [u16; Register::MAX_SIZE],
+) -> usize
+    requires { ⌜ Good m (now rs) (now rc) × (c < m) × (length (now list) ≡ max-size) ⌝ }
+    ensures { λ n. ⌜ (n ≤ length (now (list .exit))) × (length (now (list .exit)) ≡ max-size)
+        × (r < m → between 0 n (now (list .exit)) ≡ part (now (rs .entry)) (now (rc .entry)) r)
+        × (m ≤ r → between 0 n (now (list .exit)) ≡ c ∷ []) ⌝ }
+{
+    if m <= r {
+        list[0] = c as u16;
+        return 1;
+    }
+    let columns = part(rs, rc, r);
+    copy(columns, 0, list);
+    columns.len()
 }
 
 // Gives column c, which has no entry, the rows; the columns after it make room.
@@ -138,8 +147,9 @@ fn spread(m: usize, starts: &mut [u16], entries: &mut [u16], c: usize, these: &[
     }
 }
 
-// Row r is struck out of every column, and column c is given the rows; where no row is to be cleared, r is m. In the row listing
-// row r is emptied and column c struck out of every row, and then the rows are given column c.
+// Row r is struck out of every column, and column c is given the rows; where no row is to be cleared, r is m. In the row listing,
+// which goes first, row r is emptied and column c struck out of every row, and then the rows are given column c. The list is lent
+// for the columns that change.
 pub fn store(
     m: usize,
     cs: &mut [u16],
@@ -149,9 +159,11 @@ pub fn store(
     c: usize,
     r: usize,
     rows: &[u16],
+    list: &mut [u16; Register::MAX_SIZE],
 )
     requires { ⌜ Good m (now cs) (now cr) × Good m (now rs) (now rc) × Same-entries (parts m (now cs) (now cr)) (parts m (now rs) (now rc))
         × (c < m) × Rising m (now rows) ⌝ }
+    requires { ⌜ (r < m → Entry (parts m (now cs) (now cr)) r c) × (length (now list) ≡ max-size) ⌝ }
     requires { ⌜ (start-of (exchanged m (parts m (now cs) (now cr)) c r (now rows)) m ≤ max-total)
         × (start-of (exchanged m (parts m (now cs) (now cr)) c r (now rows)) m ≤ length (now cr))
         × (start-of (exchanged m (parts m (now cs) (now cr)) c r (now rows)) m ≤ length (now rc)) ⌝ }
@@ -160,8 +172,9 @@ pub fn store(
     ensures { λ _. ⌜ Held (turned m (exchanged m (parts m (now (cs .entry)) (now (cr .entry))) c r (now (rows .entry))))
         (now (rs .entry)) (now (rc .entry)) (now (rs .exit)) (now (rc .exit)) ⌝ }
 {
-    take_out(m, cs, cr, c, r);
-    insert(m, cs, cr, c, rows);
-    take_out(m, rs, rc, r, c);
+    let n = changing(m, rs, rc, c, r, list);
+    take_out(m, rs, rc, r, c, part(cs, cr, c));
     spread(m, rs, rc, c, rows);
+    take_out(m, cs, cr, c, r, first(list, n));
+    insert(m, cs, cr, c, rows);
 }

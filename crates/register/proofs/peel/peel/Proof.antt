@@ -140,7 +140,7 @@ returns c =
     let l = head f in
     let b = begun l in
     let none = subst (Searched (l .loop .counts) (b .args .p)) (c .if1 .taken) (searched f) in
-    (told-no (peeling-stuck (b .args .or .now) (b .args .oc .now) (given b) (ending (ended l)) (l .loop .inv) (omega arith) none), l .loop .inv .placed .long)
+    (told-no (peeling-stuck (b .args .or .now) (b .args .oc .now) (given b) (ending (ended l)) (l .loop .inv) (omega arith) none), (l .loop .inv .placed .long, l .loop .inv .moved .long, l .loop .inv .left .long))
 
 -- Its column and the place are in range.
 module _ (c : tie.After-wide Inv-loop μ-loop) where
@@ -305,7 +305,7 @@ returns-2 : tie.Need-returns-2 Inv-loop μ-loop
 returns-2 c =
     let e = c .before in
     let s = begun e in
-    (told-yes (peeling-all (s .args .or .now) (s .args .oc .now) (given s) (ending (ended e)) (e .loop .inv) (omega (arith, e .loop .inv .upto))), e .loop .inv .placed .long)
+    (told-yes (peeling-all (s .args .or .now) (s .args .oc .now) (given s) (ending (ended e)) (e .loop .inv) (omega (arith, e .loop .inv .upto))), (e .loop .inv .placed .long, e .loop .inv .moved .long, e .loop .inv .left .long))
 
 pub peel-spec : {M : Type 1} → statement M
 peel-spec =

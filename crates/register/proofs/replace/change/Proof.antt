@@ -1,14 +1,16 @@
 -- `change`: the judgment, and what is done after each verdict.
-use mathlib.Core.Path.{_≡_, sym, ap, _∙_}
+use mathlib.Core.Path.{_≡_, sym, ap, _∙_, subst}
 use Prim.Native.Nat.{ℕ, _<_}
 use native.Mathlib.Omega.{arith}
+use lib.ListN.{length}
 use borrow.Author.Needs.{needs}
+use Rattle.pattern.specs.Pattern.{Entry}
 use Rattle.pattern.specs.Places.{at, place}
 use Rattle.pattern.specs.Verdict.{c-row}
 use Rattle.pattern.proofs.Finding.{place-of}
 use Rattle.register.specs.Checks.{Call, call, New-fits}
 use Rattle.register.specs.Judge.{Judgeable}
-use Rattle.register.specs.Lent.{lists}
+use Rattle.register.specs.Lent.{lists, columns}
 use Rattle.register.specs.Limits.{max-size}
 use Rattle.register.specs.Replace.{asked}
 use Rattle.register.specs.Store.{joined}
@@ -56,6 +58,9 @@ module _ (c : tie.After-judge) where
   abbrev p : ℕ
   p = placed .wide .result
 
+  counts-long : length (c .judge .last .1 .1 .1 .1 .1 .1 .1 .1 .1 .1 .0) ≡ max-size
+  counts-long = c .judge .ensures .1 .1
+
 -- PERMUTED and ELIMINATION.
 permutes : (c : tie.After-enum-told2)
     → let j = c .before .before .before .before in
@@ -81,6 +86,16 @@ module _ (c : tie.After-wide2) where
   r-below : c .wide2 .result < a (begun judged) .size
   r-below = omega (arith, c .wide2 .ensures, J (begun judged) .sound .order .rows .below (p judged) (p-in (placed judged)))
 
+  -- Paired with it, it is a row of it.
+  r-paired : let s = begun judged in Entry (columns (a s .size) (a s .lists)) (c .wide2 .result) (a s .column)
+  r-paired =
+      let s = begun judged in
+      let q = place-of (J s .sound .order .cols) (a s .column) (J s .column-below) in
+      subst (λ (x : ℕ). Entry (columns (a s .size) (a s .lists)) x (a s .column)) (sym (c .wide2 .ensures))
+      (subst (λ (y : ℕ). Entry (columns (a s .size) (a s .lists)) (at (a s .lists .order-rows) (p judged)) y)
+      (ap (at (a s .lists .order-cols)) (p-is (placed judged)) ∙ q .1)
+      (J s .sound .order .paired (p judged) (p-in (placed judged))))
+
 rows-are : (c : tie.After-first)
     → let w = c .before .before .before .before .before .before .before .before .before in
     c .first .result .now ≡ joined (a (begun (judged w)) .size) (w .wide2 .result) (a (begun (judged w)) .new-rows)
@@ -104,19 +119,20 @@ judge-requires c κs =
 
 store-requires : tie.Need-store-requires
 store-requires c κs =
-    let s = begun (c .before .before .before .before .before .before .before .before) in
+    let j = c .before .before .before .before .before .before .before .before .before in
+    let s = begun j in
     let R = spiked-room (J s) (F s) in
-    ((columns-good (J s .sound), rows-good (J s .sound), J s .sound .agree, J s .column-below, J s .new-rise), (R .few, R .in-columns, R .in-rows))
+    ((columns-good (J s .sound), rows-good (J s .sound), J s .sound .agree, J s .column-below, J s .new-rise), ((λ h. absurd (omega arith), counts-long j), (R .few, R .in-columns, R .in-rows)))
 
 lay-order-requires : tie.Need-lay-order-requires
 lay-order-requires c κs =
-    let e = c .before .before .before .before .before .before .before .before .before .before .before .before .before .before .before in
+    let e = c .before .before .before .before .before .before .before .before .before .before .before .before .before .before .before .before in
     let L = J (begun (e .before .before .before .before)) .sound in
     (L .sized .1, L .long .order-rows-fit, placed-below (permutes e .rows-placed))
 
 lay-order-requires-2 : tie.Need-lay-order-requires-2
 lay-order-requires-2 c κs =
-    let e = c .before .before .before .before .before .before .before .before .before .before .before .before .before .before .before .before .before .before .before .before in
+    let e = c .before .before .before .before .before .before .before .before .before .before .before .before .before .before .before .before .before .before .before .before .before in
     let L = J (begun (e .before .before .before .before)) .sound in
     (L .sized .1, L .long .order-cols-fit, placed-below (permutes e .cols-placed))
 
@@ -132,34 +148,35 @@ join-requires c κs =
     let s = begun (judged w) in (
       record { below = λ i h. omega (arith, J s .new-rise .below i h, J s .sound .sized); rises = J s .new-rise .rises },
       omega (arith, r-below w, J s .sound .sized),
-      omega (arith, judged w .judge .ensures .1),
+      omega (arith, judged w .judge .ensures .1 .0),
     )
 
 first-requires : tie.Need-first-requires
 first-requires c κs =
     let g = c .before .before .before .before .before .before in
     let w = g .before .before in
-    omega (arith, g .join .ensures .0, g .join .kept .1 .1 .0, joined-short max-size (w .wide2 .result) (a (begun (judged w)) .new-rows), judged w .judge .ensures .1)
+    omega (arith, g .join .ensures .0, g .join .kept .1 .1 .0, joined-short max-size (w .wide2 .result) (a (begun (judged w)) .new-rows), judged w .judge .ensures .1 .0)
 
 store-requires-2 : tie.Need-store-requires-2
 store-requires-2 c κs =
-    let w = c .before .before .before .before .before .before .before .before .before in
+    let f = c .before in
+    let w = f .before .before .before .before .before .before .before .before .before in
     let s = begun (judged w) in
-    let R = cleared-room (J s) (F s) (r-is w) (rows-are c) (eliminates (told w)) in
-    ((columns-good (J s .sound), rows-good (J s .sound), J s .sound .agree, J s .column-below, rw (rows-are c) (joined-rises (a s .size) (w .wide2 .result) (a s .new-rows))), (R .few, R .in-columns, R .in-rows))
+    let R = cleared-room (J s) (F s) (r-is w) (rows-are f) (eliminates (told w)) in
+    ((columns-good (J s .sound), rows-good (J s .sound), J s .sound .agree, J s .column-below, rw (rows-are f) (joined-rises (a s .size) (w .wide2 .result) (a s .new-rows))), ((λ h. r-paired w, counts-long (judged w)), (R .few, R .in-columns, R .in-rows)))
 
 move-last-requires : tie.Need-move-last-requires
-move-last-requires c κs = let j = c .before .before .before .before .before .before .before .before .before .before .before .before .before .before .before .before .before .before .before .before .before .before .before .before .before .before in (p-in (placed j), J (begun j) .sound .long .order-rows-fit)
+move-last-requires c κs = let j = c .before .before .before .before .before .before .before .before .before .before .before .before .before .before .before .before .before .before .before .before .before .before .before .before .before .before .before in (p-in (placed j), J (begun j) .sound .long .order-rows-fit)
 
 move-last-requires-2 : tie.Need-move-last-requires-2
-move-last-requires-2 c κs = let j = c .before .before .before .before .before .before .before .before .before .before .before .before .before .before .before .before .before .before .before .before .before .before .before .before .before .before .before .before .before .before in (p-in (placed j), J (begun j) .sound .long .order-cols-fit)
+move-last-requires-2 c κs = let j = c .before .before .before .before .before .before .before .before .before .before .before .before .before .before .before .before .before .before .before .before .before .before .before .before .before .before .before .before .before .before .before in (p-in (placed j), J (begun j) .sound .long .order-cols-fit)
 
 returns : tie.Need-returns
 returns c = rw (c .enum-told .given .1) (unchanged (rw (c .enum-told .given .1) at (c .before .before .before .before .judge .ensures .0)))
 
 returns-2 : tie.Need-returns-2
 returns-2 c =
-    let e = c .before .before .before .before .before .before .before .before .before .before .before .before .before .before .before .before .before .before .before .before .before .before .before in
+    let e = c .before .before .before .before .before .before .before .before .before .before .before .before .before .before .before .before .before .before .before .before .before .before .before .before in
     let s = begun (e .before .before .before .before) in
     let H = c .before .before .before .before .before .before .before .before .before .before .before .before .before .before .before .before .before .before .store .ensures in
     rw (e .enum-told2 .given .1)
@@ -167,7 +184,7 @@ returns-2 c =
 
 returns-3 : tie.Need-returns-3
 returns-3 c =
-    let f = c .before .before .before .before .before .before .before .before .before .before .before .before .before .before .before .before .before in
+    let f = c .before .before .before .before .before .before .before .before .before .before .before .before .before .before .before .before .before .before in
     let w = f .before .before .before .before .before .before .before .before .before in
     let s = begun (judged w) in
     let H = c .before .before .before .before .before .before .before .before .before .before .before .before .before .before .before .before .store2 .ensures in
@@ -217,5 +234,5 @@ change-spec =
     (λ c. search needs)
     (λ c. search needs)
     (λ c. search needs)
-    (λ c. c .before .before .before .before .before .before .before .before .before .before .before .before .before .before .before .before .before .before .before .before .before .before .before .before .before .before .before .before .before .before .before .before .before .judge .kept .1 .1 .1 .1 .1 .1 .1 .1 .1 .1 .1 .1 .1 .0)
+    (λ c. c .before .before .before .before .before .before .before .before .before .before .before .before .before .before .before .before .before .before .before .before .before .before .before .before .before .before .before .before .before .before .before .before .before .before .judge .kept .1 .1 .1 .1 .1 .1 .1 .1 .1 .1 .1 .1 .1 .0)
     returns-3)

@@ -4,9 +4,9 @@ use Prim.Native.Nat.{_+_, _-_, _≤_}
 use native.Mathlib.Omega.{arith}
 use borrow.Author.Needs.{needs}
 use Rattle.register.specs.Store.{Raised}
-use Rattle.register.proofs.Moves.{raised-none, raised-more}
-use Rattle.register.proofs.store.raise.Statement.{statement}
-use Rattle.register.proofs.store.raise.Tie as tie
+use Rattle.register.proofs.Moving.{raised-none, raised-more}
+use Rattle.register.proofs.moves.raise.Statement.{statement}
+use Rattle.register.proofs.moves.raise.Tie as tie
 
 abbrev Inv-loop : tie.InvT-loop
 Inv-loop starts₀ c m n by k₀ starts k = (c ≤ k) × (k ≤ m) × Raised c k n starts₀ starts
