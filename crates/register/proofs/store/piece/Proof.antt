@@ -59,7 +59,7 @@ returns-2 c =
       one = λ z. (
         omega (arith, b .wide .ensures),
         subst (λ (l : List ℕ). Cut (s .args .r) (b .wide .result + c .below .result - at (s .args .starts .now) (s .args .k)) l) (c .before .part .ensures)
-        (subst (λ (n : ℕ). Cut (s .args .r) n (c .before .part .result .now)) (sym e) (c .below .ensures)),
+            (subst (λ (n : ℕ). Cut (s .args .r) n (c .before .part .result .now)) (sym e) (c .below .ensures)),
         refl,
       );
     }
