@@ -23,6 +23,7 @@ pub mod Tops
 pub mod Listings
 pub mod Faults
 pub mod NumberBack
+pub mod FewGroups
 pub mod SeriesBack
 pub mod SheetRead
 pub mod SheetWritten

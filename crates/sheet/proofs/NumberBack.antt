@@ -46,11 +46,11 @@ module _ (bytes : List ℕ) where
   ended-is p group value next h = rw (ne-eqb group 0 (λ e. omega arith))
 
   -- A number of one group, of two, of three.
-  number-one : (p : ℕ) {a : ℕ} {l : List ℕ} → Stands p a l → a < 128 → number bytes p ≡ got a (p + 1)
+  pub number-one : (p : ℕ) {a : ℕ} {l : List ℕ} → Stands p a l → a < 128 → number bytes p ≡ got a (p + 1)
   unfolding number
   number-one p {a} s h = byte-is p p _ s ∙ rw (lt-ltb a 128 h)
 
-  number-two : (p : ℕ) {a b : ℕ} {k l : List ℕ} → Stands p a k → 128 ≤ a → Stands (p + 1) b l → b < 128 → 0 < b → number bytes p ≡ got (a - 128 + 128 * b) (p + 2)
+  pub number-two : (p : ℕ) {a b : ℕ} {k l : List ℕ} → Stands p a k → 128 ≤ a → Stands (p + 1) b l → b < 128 → 0 < b → number bytes p ≡ got (a - 128 + 128 * b) (p + 2)
   unfolding number
   number-two p {a} {b} s h t g o = byte-is p p _ s ∙ rw (le-ltb a 128 h) (byte-is p (p + 1) _ t ∙ rw (lt-ltb b 128 g) (ended-is p b (a - 128 + 128 * b) (p + 2) o))
 

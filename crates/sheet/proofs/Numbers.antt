@@ -1,12 +1,14 @@
 -- The groups of a number by its three cases, how many there are, and how they are put one by one. Rests on specs/Number.antt
 -- and `register`.
 use mathlib.Core.List.{List, [], _∷_}
-use mathlib.Core.Path.{_≡_, refl, sym, ap, _∙_}
+use mathlib.Core.Path.{_≡_, refl, sym, ap, _∙_, subst}
 use Prim.Native.Nat.{ℕ, _+_, _/_, _%_, _≤_, _<_}
 use native.Mathlib.Decide.{decLt}
 use native.Mathlib.Omega.{arith}
 use lib.ListN.{length, set}
+use lib.Seq.{getD-set-other, set-getD}
 use borrow.Author.Tests.{lt-ltb, le-ltb}
+use Rattle.pattern.specs.Places.{at}
 use Rattle.register.specs.Held.{put}
 use Rattle.register.proofs.Puts.{put-none, put-more}
 use Rattle.sheet.specs.Number.{groups}
@@ -54,6 +56,12 @@ module _ (n : ℕ) (l : List ℕ) (k : ℕ) (room : k + length (groups n) ≤ le
 
   pub put-one : n < 128 → Puts k (groups n) l (k + 1) (set l k n)
   put-one h = rw (groups-one n h) (record { after = refl; stand = set-one n })
+
+  -- One, and what stands behind it put there again.
+  pub put-one-kept : n < 128 → Puts k (groups n) l (k + 1) (set (set l k n) (k + 1) (at l (k + 1)))
+  put-one-kept h =
+      let e = sym (getD-set-other l k (k + 1) n 0 (λ z. omega arith)) in
+      subst (Puts k (groups n) l (k + 1)) (sym (ap (set (set l k n) (k + 1)) e ∙ set-getD (set l k n) (k + 1) 0)) (put-one h)
 
   pub put-two : 128 ≤ n → n < 16384 → Puts k (groups n) l (k + 2) (set (set l k (128 + n % 128)) (k + 1) (n / 128))
   put-two a b =

@@ -1,5 +1,6 @@
 // The numbers of a sheet with their ranges: the size, a count, a row of a column, a row or a column of the order.
 use crate::number::Number;
+use crate::number::Step;
 use crate::number::read_number;
 use register::Refusal;
 use register::Register;
@@ -11,12 +12,6 @@ ghost use Rattle.sheet.specs.Number.{got};
 ghost use Rattle.sheet.specs.Passes.{Got};
 ghost use Rattle.sheet.specs.Reading.{number-that, size-at, row-at, count-at, pair-at};
 ghost use Rattle.sheet.specs.Reply.{told};
-
-// A number that was read, and the place after it.
-pub struct Step {
-    pub value: u32,
-    pub next: usize,
-}
 
 // What was read, where it is known to be no fault.
 pub fn known(read: Number) -> Step

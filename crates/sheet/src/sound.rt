@@ -1,10 +1,10 @@
 // Whether the order of a sheet without faults is sound, in two scratch lists: the places of its rows, and of each column the
 // greatest place among its rows.
-use crate::items::Step;
 use crate::items::count;
 use crate::items::known;
 use crate::items::known_pair;
 use crate::items::row;
+use crate::number::Step;
 use register::Register;
 ghost use mathlib.Core.List.{[]};
 ghost use mathlib.Core.Path.{_≡_};

@@ -1,66 +1,46 @@
--- `put`: the groups one by one, in the three cases of a number.
+-- `put`: one group and what stands behind it, or two; else what `put_groups` puts.
+use mathlib.Core.Logic.{⊎-elim}
 use native.Mathlib.Omega.{arith}
 use lib.ListN.{length-set}
 use borrow.Author.Needs.{needs}
-use Rattle.sheet.proofs.Numbers.{groups-some, put-one, put-two, put-three}
+use Rattle.sheet.proofs.Numbers.{put-one-kept, put-two}
 use Rattle.sheet.proofs.number.put.Statement.{statement}
 use Rattle.sheet.proofs.number.put.Tie as tie
 
-slice-write-bytes : tie.Need-slice-write-bytes
-slice-write-bytes c = omega (arith, groups-some (c .before .args .value))
-
-returns : tie.Need-returns
-returns c = let s = c .before in put-one (s .args .value) (s .args .bytes .now) (s .args .place) (s .pre .1) (c .if1 .taken)
+cast-bytes : tie.Need-cast-bytes
+cast-bytes c = ⊎-elim (λ w. omega arith) (λ w. omega arith) (c .before .if3 .came)
 
 slice-write-bytes-2 : tie.Need-slice-write-bytes-2
-slice-write-bytes-2 c = omega (arith, groups-some (c .before .args .value))
-
-slice-write-bytes-3 : tie.Need-slice-write-bytes-3
-slice-write-bytes-3 c =
-    let s = c .before .before in
-    simp length-set (omega (arith, put-two (s .args .value) (s .args .bytes .now) (s .args .place) (s .pre .1) (c .before .if1 .left) (c .if2 .taken) .after))
-
-returns-2 : tie.Need-returns-2
-returns-2 c = let s = c .before .before in put-two (s .args .value) (s .args .bytes .now) (s .args .place) (s .pre .1) (c .before .if1 .left) (c .if2 .taken)
-
-slice-write-bytes-4 : tie.Need-slice-write-bytes-4
-slice-write-bytes-4 c =
-    let s = c .before .before in
-    simp length-set (omega (arith, put-three (s .args .value) (s .args .bytes .now) (s .args .place) (s .pre .1) (c .if2 .left) .after))
-
-slice-write-bytes-5 : tie.Need-slice-write-bytes-5
-slice-write-bytes-5 c =
-    let s = c .before .before in
-    simp length-set (omega (arith, put-three (s .args .value) (s .args .bytes .now) (s .args .place) (s .pre .1) (c .if2 .left) .after))
+slice-write-bytes-2 c = simp length-set (omega arith)
 
 returns-3 : tie.Need-returns-3
-returns-3 c = let s = c .before .before in put-three (s .args .value) (s .args .bytes .now) (s .args .place) (s .pre .1) (c .if2 .left)
+returns-3 c =
+    let s = c .before .before .before .before .before .before in
+    ⊎-elim
+    (λ w. rw (w .1, w .2, w .3) (put-two (s .args .value) (s .args .bytes .now) (s .args .place) (s .pre .1) (w .0 .taken) (omega arith)))
+    (λ w. rw (w .1, w .2, w .3) (put-one-kept (s .args .value) (s .args .bytes .now) (s .args .place) (s .pre .1) (w .0 .left)))
+    (c .before .if3 .came)
 
 pub put-spec : {M : Type 1} → statement M
 put-spec =
     tie.close
     (tie.spec
+    (λ c κs. search needs)
     (λ c. search needs)
-    slice-write-bytes
     (λ c. search needs)
     (λ c. search needs)
-    returns
+    (λ c κs. search needs)
+    (λ c. search needs)
+    (λ c. search needs)
+    (λ c. search needs)
+    (λ c. search needs)
+    (λ c. search needs)
+    (λ c. search needs)
+    (λ c. search needs)
+    (λ c. search needs)
+    cast-bytes
     (λ c. search needs)
     (λ c. search needs)
     slice-write-bytes-2
-    (λ c. search needs)
-    (λ c. search needs)
-    slice-write-bytes-3
-    (λ c. search needs)
-    (λ c. search needs)
-    returns-2
-    (λ c. search needs)
-    (λ c. search needs)
-    (λ c. search needs)
-    slice-write-bytes-4
-    (λ c. search needs)
-    (λ c. search needs)
-    slice-write-bytes-5
-    (λ c. search needs)
     (λ c. search needs)
     returns-3)
