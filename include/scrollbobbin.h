@@ -198,7 +198,8 @@ size_t scrollbobbin_replace(
 /*
  * Writes the sheet of a register to the head of the bytes: SCROLLBOBBIN_DONE, with *count the
  * number of bytes, or a refusal of 1 to 5 or 8, with *count 0. The bytes past *count keep what they
- * held, and a refused call changes none. *count is always written.
+ * held, and a refused call changes none. *count is always written. 30,002 bytes are room for every
+ * sheet; with fewer, the sheet is measured before it is written.
  */
 size_t scrollbobbin_write_sheet(
     size_t size,

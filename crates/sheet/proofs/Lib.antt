@@ -15,6 +15,7 @@ pub mod Onward
 pub mod Gauges
 pub mod Layouts
 pub mod Lefts
+pub mod Wider
 pub mod Findings
 pub mod Replying
 pub mod Rereads

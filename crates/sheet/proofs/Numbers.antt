@@ -45,6 +45,9 @@ module _ (n : ℕ) where
   pub groups-few : length (groups n) ≤ 3
   groups-few = by-groups (λ l. length l ≤ 3) (λ _. omega arith) (λ _ _. omega arith) (λ _. omega arith)
 
+  pub groups-short : n < 16384 → length (groups n) ≤ 2
+  groups-short h = by-groups (λ l. length l ≤ 2) (λ _. omega arith) (λ _ _. omega arith) (λ a. absurd (omega arith))
+
 -- ---- Put one by one
 
 module _ (n : ℕ) (l : List ℕ) (k : ℕ) (room : k + length (groups n) ≤ length l) where

@@ -1,4 +1,5 @@
--- What lent lists say, and what they say once they hold a record: the record itself. Rests on SheetWritten.antt and `register`.
+-- What lent lists say, and what they say once they hold a record: the record itself. Rests on SheetWritten.antt, Sizes.antt and
+-- `register`.
 use mathlib.Core.List.{List, [], _∷_, map}
 use mathlib.Core.Path.{_≡_, refl, sym, ap, ap₂, _∙_}
 use Prim.Native.Nat.{ℕ, suc, _≤_, _<_}
@@ -11,15 +12,16 @@ use Rattle.pattern.specs.Turned.{turned}
 use Rattle.pattern.proofs.Pairing.{sound-same}
 use Rattle.pattern.proofs.Tallies.{flat-length}
 use Rattle.register.specs.Held.{over, Takes}
-use Rattle.register.specs.Lent.{Lists, columns, rows, Sound-lists}
+use Rattle.register.specs.Lent.{Lists, rows, Sound-lists}
 use Rattle.register.specs.Limits.{max-total}
 use Rattle.register.proofs.Holding.{over-new}
 use Rattle.register.proofs.Holdings.{columns-back, rows-back, holding-sound}
-use Rattle.register.proofs.Listings.{good-columns, parts-start}
+use Rattle.register.proofs.Listings.{good-columns}
 use Rattle.register.proofs.Soundness.{columns-good}
 use Rattle.sheet.specs.Sheet.{Record, pairs, firsts, seconds, record-of, total, Sound-record, held-record}
 use Rattle.sheet.proofs.AtPlaces.{pairs-length, pair-is}
 use Rattle.sheet.proofs.SheetWritten.{Well}
+use Rattle.sheet.proofs.Sizes.{entries-few}
 
 abbrev record-with : ℕ → List (List ℕ) → List (ℕ × ℕ) → Record
 record-with m P o = record { size = m; columns = P; order = o }
@@ -47,13 +49,10 @@ module _ {m : ℕ} {l : Lists} (s : Sound-lists m l) where
   pub lists-well : Well (record-of m l)
   lists-well =
       let G = columns-good s in
-      let P = columns m l in
       record {
         sized = s .sized;
         columns = good-columns G;
-        few =
-            let e = flat-length P ∙ ap (start-of P) (good-columns G .size) ∙ parts-start m (l .col-starts) (l .col-rows) (G .room) (G .formed .starts-right) m (omega arith) in
-            omega (arith, e, G .formed .starts-right .total);
+        few = entries-few G;
         places = pairs-length m (l .order-rows) (l .order-cols);
         rows-below = λ t h. omega (arith, first-is m (l .order-rows) (l .order-cols) t h, s .order .rows .below t h);
         cols-below = λ t h. omega (arith, second-is m (l .order-rows) (l .order-cols) t h, s .order .cols .below t h);

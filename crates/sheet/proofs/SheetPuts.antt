@@ -23,5 +23,6 @@ module _ (x : Record) (old : List ℕ) (room : length (sheet x) ≤ length old) 
       pub order-room : j + length (order-bytes (x .order)) ≤ length newer
       order-room = omega (arith, sheet-length x, p .after, q .after, puts-length size-room p, puts-length columns-room q)
 
-      pub all-put : {k : ℕ} {newest : List ℕ} → Puts j (order-bytes (x .order)) newer k newest → newest ≡ over (sheet x) old
-      all-put r = puts-both (omega arith) p (puts-both (omega (arith, columns-room)) q r) .stand
+      pub all-put : {k : ℕ} {newest : List ℕ} → Puts j (order-bytes (x .order)) newer k newest
+          → (k ≡ length (sheet x)) × (newest ≡ over (sheet x) old)
+      all-put r = let all = puts-both (omega arith) p (puts-both (omega (arith, columns-room)) q r) in (omega (arith, all .after), all .stand)

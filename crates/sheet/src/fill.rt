@@ -1,9 +1,6 @@
 // The last passes over a sheet that is accepted: its register goes into the lent lists.
-use crate::items::count;
 use crate::items::known;
 use crate::items::known_pair;
-use crate::items::row;
-use crate::items::size;
 use register::turn::turn;
 ghost use mathlib.Core.List.{[]};
 ghost use mathlib.Core.Path.{_≡_};
@@ -19,19 +16,20 @@ ghost use Rattle.sheet.specs.Reading.{rows-at, columns-at, order-at, rec
 ghost use Rattle.sheet.specs.Sheet.{firsts, seconds, total, held-record};
 
 // The n rows of a column go to place k of the entries on; replies the place after them in the bytes.
-fn fill_rows(bytes: &[u8], place: usize, m: u32, n: u32, entries: &mut [u16], k: usize) -> usize
-    requires { ⌜ (m ≤ max-size) × Got [] (rows-at (now bytes) m n place) × (k + n ≤ length (now entries)) ⌝ }
-    ensures { λ next. ⌜ (rows-at (now (bytes .entry)) m n place ≡ got (thing [] (rows-at (now (bytes .entry)) m n place)) next)
-        × (now (entries .exit) ≡ put k (thing [] (rows-at (now (bytes .entry)) m n place)) (now (entries .entry))) ⌝ }
+fn fill_rows(bytes: &[u8], place: usize, n: u32, entries: &mut [u16], k: usize) -> usize
+    requires { ⌜ Got [] (rows-at (now bytes) max-size n place) × (k + n ≤ length (now entries)) ⌝ }
+    ensures { λ next. ⌜ (rows-at (now (bytes .entry)) max-size n place ≡ got (thing [] (rows-at (now (bytes .entry)) max-size n place)) next)
+        × (now (entries .exit) ≡ put k (thing [] (rows-at (now (bytes .entry)) max-size n place)) (now (entries .entry))) ⌝ }
 {
     let mut at = place;
     let mut least = 0;
     let mut i = 0;
     while i < n {
-        let r = known(row(bytes, at, m, least));
-        entries[k + i as usize] = r.value as u16;
-        least = r.value + 1;
-        at = r.next;
+        let gap = known(bytes, at);
+        let r = least + gap.value;
+        entries[k + i as usize] = r as u16;
+        least = r + 1;
+        at = gap.next;
         i += 1;
     }
     at
@@ -49,8 +47,8 @@ fn fill_columns(bytes: &[u8], place: usize, m: u32, cs: &mut [u16], cr: &mut [u1
     let mut c = 0;
     while c < m {
         cs[c as usize] = entries as u16;
-        let n = known(count(bytes, at, m, entries));
-        at = fill_rows(bytes, n.next, m, n.value, cr, entries as usize);
+        let n = known(bytes, at);
+        at = fill_rows(bytes, n.next, n.value, cr, entries as usize);
         entries = entries + n.value;
         c += 1;
     }
@@ -67,7 +65,7 @@ fn fill_order(bytes: &[u8], place: usize, m: u32, rows: &mut [u16], cols: &mut [
     let mut at = place;
     let mut t = 0;
     while t < m {
-        let pair = known_pair(bytes, at, m);
+        let pair = known_pair(bytes, at);
         rows[t as usize] = pair.row as u16;
         cols[t as usize] = pair.column as u16;
         at = pair.next;
@@ -92,7 +90,7 @@ pub fn fill(
         ≡ held-record (thing blank (record-read (now (bytes .entry))))
         (lists (now (cs .entry)) (now (cr .entry)) (now (rs .entry)) (now (rc .entry)) (now (or .entry)) (now (oc .entry))) ⌝ }
 {
-    let m = known(size(bytes));
+    let m = known(bytes, 0);
     let order = fill_columns(bytes, m.next, m.value, cs, cr);
     fill_order(bytes, order, m.value, or, oc);
     turn(m.value as usize, cs, cr, rs, rc);

@@ -1,6 +1,7 @@
 // The numbers of a sheet with their ranges: the size, a count, a row of a column, a row or a column of the order.
 use crate::number::Number;
 use crate::number::Step;
+use crate::number::few_groups;
 use crate::number::read_number;
 use register::Refusal;
 use register::Register;
@@ -8,24 +9,10 @@ ghost use mathlib.Core.Path.{_≡_};
 ghost use Prim.Native.Nat.{ℕ, _≤_};
 ghost use lib.Dec.{ltb};
 ghost use Rattle.register.specs.Limits.{max-size, max-total};
-ghost use Rattle.sheet.specs.Number.{got};
+ghost use Rattle.sheet.specs.Number.{got, number};
 ghost use Rattle.sheet.specs.Passes.{Got};
 ghost use Rattle.sheet.specs.Reading.{number-that, size-at, row-at, count-at, pair-at};
 ghost use Rattle.sheet.specs.Reply.{told};
-
-// What was read, where it is known to be no fault.
-pub fn known(read: Number) -> Step
-    requires { ⌜ Got 0 (told read) ⌝ }
-    ensures { λ r. ⌜ told read ≡ got (r .value) (r .next) ⌝ }
-{
-    match read {
-        Number::Value { value, next } => Step { value, next },
-        Number::Fault { reply, place } => Step {
-            value: 0,
-            next: place,
-        },
-    }
-}
 
 // A number below the limit, or a range fault. The order's rows and columns are such, with the size as the limit.
 pub fn below(bytes: &[u8], place: usize, limit: u32) -> Number
@@ -85,6 +72,20 @@ pub fn row(bytes: &[u8], place: usize, m: u32, least: u32) -> Number
     }
 }
 
+// The number that begins at this place, where it is known to have one group or two.
+pub fn known(bytes: &[u8], place: usize) -> Step
+    requires { ⌜ Got 0 (number-that (now bytes) (λ (v : ℕ). ltb v 16384) 11 place) ⌝ }
+    ensures { λ r. ⌜ number (now (bytes .entry)) place ≡ got (r .value) (r .next) ⌝ }
+{
+    if place + 1 == bytes.len() {
+        return Step {
+            value: bytes[place] as u32,
+            next: place + 1,
+        };
+    }
+    few_groups(bytes, place)
+}
+
 // A row and a column of the order, and the place after them.
 pub struct Pair {
     pub row: u32,
@@ -93,12 +94,12 @@ pub struct Pair {
 }
 
 // The row and the column of one place of the order, where they are known to be no fault.
-pub fn known_pair(bytes: &[u8], place: usize, m: u32) -> Pair
-    requires { ⌜ Got {A = ℕ × ℕ} (0, 0) (pair-at (now bytes) m 0 place) ⌝ }
-    ensures { λ r. ⌜ pair-at (now (bytes .entry)) m 0 place ≡ got (r .row, r .column) (r .next) ⌝ }
+pub fn known_pair(bytes: &[u8], place: usize) -> Pair
+    requires { ⌜ Got {A = ℕ × ℕ} (0, 0) (pair-at (now bytes) max-size 0 place) ⌝ }
+    ensures { λ r. ⌜ pair-at (now (bytes .entry)) max-size 0 place ≡ got (r .row, r .column) (r .next) ⌝ }
 {
-    let row = known(below(bytes, place, m));
-    let column = known(below(bytes, row.next, m));
+    let row = known(bytes, place);
+    let column = known(bytes, row.next);
     Pair {
         row: row.value,
         column: column.value,

@@ -48,6 +48,9 @@ pub enum Examined {
     },
 }
 
+// No sheet is longer: the size, the counts, the entries and the order's rows and columns have two bytes each at most.
+const LONGEST: usize = 30002;
+
 // Writes the sheet of a register to the head of the bytes, after checks 1 to 5 and 8.
 pub fn write_sheet(
     size: usize,
@@ -76,12 +79,13 @@ pub fn write_sheet(
     match checked {
         Checked::Refused(refusal) => Written::Refused(refusal),
         Checked::Sound => {
-            let count = measure(size, col_starts, col_rows, order_rows, order_cols);
-            if bytes.len() < count {
-                return Written::Refused(Refusal::NoRoom);
+            if bytes.len() < LONGEST {
+                let count = measure(size, col_starts, col_rows, order_rows, order_cols);
+                if bytes.len() < count {
+                    return Written::Refused(Refusal::NoRoom);
+                }
             }
-            put_sheet(size, col_starts, col_rows, order_rows, order_cols, bytes);
-            Written::Count(count)
+            Written::Count(put_sheet(size, col_starts, col_rows, order_rows, order_cols, bytes))
         }
     }
 }

@@ -1,4 +1,4 @@
-// How many bytes the sheet of a register has. It must be known before the first byte is put.
+// How many bytes the sheet of a register has. Where the room may be short, it must be known before the first byte is put.
 use crate::number::width;
 use register::Register;
 ghost use mathlib.Core.Path.{_≡_};

@@ -62,13 +62,21 @@ fn put_order(size: usize, or: &[u16], oc: &[u16], bytes: &mut [u8], place: usize
     at
 }
 
-// The whole sheet, at the head of the bytes.
-pub fn put_sheet(size: usize, cs: &[u16], cr: &[u16], or: &[u16], oc: &[u16], bytes: &mut [u8])
+// The whole sheet, at the head of the bytes; replies how many it has.
+pub fn put_sheet(
+    size: usize,
+    cs: &[u16],
+    cr: &[u16],
+    or: &[u16],
+    oc: &[u16],
+    bytes: &mut [u8],
+) -> usize
     requires { ⌜ Sized size × Good size (now cs) (now cr) × (size ≤ length (now or)) × (size ≤ length (now oc))
         × (length (sheet (record-in size (now cs) (now cr) (now or) (now oc))) ≤ length (now bytes)) ⌝ }
-    ensures { λ _. ⌜ now (bytes .exit) ≡ over (sheet (record-in size (now (cs .entry)) (now (cr .entry)) (now (or .entry)) (now (oc .entry)))) (now (bytes .entry)) ⌝ }
+    ensures { λ n. ⌜ (n ≡ length (sheet (record-in size (now (cs .entry)) (now (cr .entry)) (now (or .entry)) (now (oc .entry)))))
+        × (now (bytes .exit) ≡ over (sheet (record-in size (now (cs .entry)) (now (cr .entry)) (now (or .entry)) (now (oc .entry)))) (now (bytes .entry))) ⌝ }
 {
     let columns = put(size as u32, bytes, 0);
     let order = put_columns(size, cs, cr, bytes, columns);
-    put_order(size, or, oc, bytes, order);
+    put_order(size, or, oc, bytes, order)
 }

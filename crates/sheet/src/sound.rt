@@ -1,9 +1,7 @@
 // Whether the order of a sheet without faults is sound, in two scratch lists: the places of its rows, and of each column the
 // greatest place among its rows.
-use crate::items::count;
 use crate::items::known;
 use crate::items::known_pair;
-use crate::items::row;
 use crate::number::Step;
 use register::Register;
 ghost use mathlib.Core.List.{[]};
@@ -36,7 +34,7 @@ fn enter(bytes: &[u8], place: usize, m: u32, places: &mut [u16; Register::MAX_SI
     let mut at = place;
     let mut t = 0;
     while t < m {
-        let pair = known_pair(bytes, at, m);
+        let pair = known_pair(bytes, at);
         if places[pair.row as usize] < NOWHERE {
             return false;
         }
@@ -48,23 +46,25 @@ fn enter(bytes: &[u8], place: usize, m: u32, places: &mut [u16; Register::MAX_SI
 }
 
 // Of n rows, one more than the greatest place, and 0 where there is none; and the place after them in the bytes.
-fn top(bytes: &[u8], place: usize, m: u32, n: u32, places: &[u16; Register::MAX_SIZE]) -> Step
-    requires { ⌜ (m ≤ max-size) × Got [] (rows-at (now bytes) m n place) × ((x : ℕ) → x < m → at (now places) x < m) ⌝ }
-    ensures { λ r. ⌜ (rows-at (now (bytes .entry)) m n place ≡ got (thing [] (rows-at (now (bytes .entry)) m n place)) (r .next))
-        × (r .value ≡ greatest (λ (x : ℕ). suc (at (now (places .entry)) x)) (thing [] (rows-at (now (bytes .entry)) m n place))) ⌝ }
+fn top(bytes: &[u8], place: usize, n: u32, places: &[u16; Register::MAX_SIZE]) -> Step
+    requires { ⌜ Got [] (rows-at (now bytes) max-size n place)
+        × ((k : ℕ) → k < n → at (now places) (at (thing [] (rows-at (now bytes) max-size n place)) k) < max-size) ⌝ }
+    ensures { λ r. ⌜ (rows-at (now (bytes .entry)) max-size n place ≡ got (thing [] (rows-at (now (bytes .entry)) max-size n place)) (r .next))
+        × (r .value ≡ greatest (λ (x : ℕ). suc (at (now (places .entry)) x)) (thing [] (rows-at (now (bytes .entry)) max-size n place))) ⌝ }
 {
     let mut at = place;
     let mut least = 0;
     let mut top = 0;
     let mut k = 0;
     while k < n {
-        let r = known(row(bytes, at, m, least));
-        let p = places[r.value as usize] as u32 + 1;
+        let gap = known(bytes, at);
+        let r = least + gap.value;
+        let p = places[r as usize] as u32 + 1;
         if top < p {
             top = p;
         }
-        least = r.value + 1;
-        at = r.next;
+        least = r + 1;
+        at = gap.next;
         k += 1;
     }
     Step {
@@ -86,13 +86,11 @@ fn tops(
         ≡ greatest (λ (x : ℕ). suc (at (now (places .entry)) x)) (column (thing [] (columns-at (now (bytes .entry)) m place)) c)) ⌝ }
 {
     let mut at = place;
-    let mut entries = 0;
     let mut c = 0;
     while c < m {
-        let n = known(count(bytes, at, m, entries));
-        let step = top(bytes, n.next, m, n.value, places);
+        let n = known(bytes, at);
+        let step = top(bytes, n.next, n.value, places);
         tops[c as usize] = step.value as u16;
-        entries = entries + n.value;
         at = step.next;
         c += 1;
     }
@@ -107,7 +105,7 @@ fn agree(bytes: &[u8], place: usize, m: u32, tops: &[u16; Register::MAX_SIZE]) -
     let mut at = place;
     let mut t = 0;
     while t < m {
-        let pair = known_pair(bytes, at, m);
+        let pair = known_pair(bytes, at);
         if tops[pair.column as usize] != (t + 1) as u16 {
             return false;
         }

@@ -9,6 +9,9 @@ use crate::group::Group;
 use crate::register::Register;
 use crate::registers;
 
+// No sheet is longer: two bytes for each of its numbers. A list of that length needs no measuring.
+const LONGEST: usize = 2 * (1 + 3 * 1_000 + 12_000);
+
 pub fn group(group: &mut Group) {
     for (size, total, write, read) in [
         (1_000, 1_000, 0, 0),
@@ -42,6 +45,8 @@ fn both_ways(group: &mut Group, register: &Register, write: usize, read: usize) 
     for (length, room) in [
         (sheet.len(), true),
         (sheet.len() + 50, true),
+        (LONGEST - 1, true),
+        (LONGEST, true),
         (sheet.len() - 1, false),
         (0, false),
     ] {

@@ -1,9 +1,14 @@
--- `write_sheet`: a refusal by the checks of the register or by the byte list, or the sheet.
+-- `write_sheet`: a refusal by the checks of the register or by the byte list, or the sheet. A byte list that no sheet passes has room unmeasured.
+use mathlib.Core.Logic.{⊎-elim}
+use Prim.Native.Nat.{_≤_}
 use native.Mathlib.Omega.{arith}
+use lib.ListN.{length}
 use borrow.Author.Needs.{needs}
 use Rattle.register.specs.Lent.{Lists, lists, Sound-lists}
 use Rattle.register.proofs.Calls.{number-some}
 use Rattle.register.proofs.Soundness.{fault-none, columns-good}
+use Rattle.sheet.specs.Sheet.{record-of, sheet}
+use Rattle.sheet.proofs.Sizes.{sheet-longest}
 use Rattle.sheet.proofs.Writing.{write-refused, write-short, write-taken}
 use Rattle.sheet.proofs.write_sheet.Statement.{statement}
 use Rattle.sheet.proofs.write_sheet.Tie as tie
@@ -25,19 +30,24 @@ sound c =
     fault-none (begun k .args .size) (lent k) (rw (c .enum-told .given .1) at (k .check .ensures))
 
 measure-requires : tie.Need-measure-requires
-measure-requires c κs = let s = sound c in (s .sized, columns-good s, s .long .order-rows-fit, s .long .order-cols-fit)
+measure-requires c κs = let s = sound (c .before) in (s .sized, columns-good s, s .long .order-rows-fit, s .long .order-cols-fit)
 
 returns : tie.Need-returns
 returns c =
-    let e = c .before .before in
+    let e = c .before .before .before in
     let k = e .before .before in
-    write-short (begun k .args .size) (lent k) (begun k .args .bytes .now) (sound e) (omega (arith, c .before .measure .ensures, c .if1 .taken))
+    write-short (begun k .args .size) (lent k) (begun k .args .bytes .now) (sound e) (omega (arith, c .before .measure .ensures, c .if2 .taken))
+
+-- Where the ways join there is room: it was measured, or no sheet is longer.
+module _ (c : tie.Joined1) where
+  abbrev checked : tie.After-check
+  checked = c .before .before .before
+
+  fits : length (sheet (record-of (begun checked .args .size) (lent checked))) ≤ length (begun checked .args .bytes .now)
+  fits = ⊎-elim (λ w. omega (arith, w .1 .ensures, w .2 .left)) (λ w. omega (arith, w .left, sheet-longest (sound (c .before)))) (c .if1 .came)
 
 put-sheet-requires : tie.Need-put-sheet-requires
-put-sheet-requires c κs =
-    let e = c .before .before .before in
-    let s = sound e in
-    (s .sized, columns-good s, s .long .order-rows-fit, s .long .order-cols-fit, omega (arith, c .before .before .measure .ensures, c .before .if1 .left))
+put-sheet-requires c κs = let s = sound (c .before .before) in (s .sized, columns-good s, s .long .order-rows-fit, s .long .order-cols-fit, fits (c .before))
 
 returns-2 : tie.Need-returns-2
 returns-2 c =
@@ -48,10 +58,9 @@ returns-2 c =
 returns-3 : tie.Need-returns-3
 returns-3 c =
     let p = c .before .before in
-    let i = p .before .before in
-    let e = i .before .before in
-    let k = e .before .before in
-    write-taken (begun k .args .size) (lent k) (begun k .args .bytes .now) (sound e) (omega (arith, i .before .measure .ensures, i .if1 .left)) (i .before .measure .ensures) (p .put-sheet .ensures)
+    let j = p .before .before in
+    let k = checked j in
+    write-taken (begun k .args .size) (lent k) (begun k .args .bytes .now) (sound (j .before)) (fits j) (p .put-sheet .ensures .0) (p .put-sheet .ensures .1)
 
 pub write-sheet-spec : {M : Type 1} → statement M
 write-sheet-spec =

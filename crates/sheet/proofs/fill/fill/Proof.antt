@@ -1,7 +1,7 @@
 -- `fill`: the column listing, the order, and the columns turned.
 use mathlib.Core.List.{List, []}
-use mathlib.Core.Path.{_≡_, sym, ap, _∙_}
-use Prim.Native.Nat.{ℕ, _-_, _≤_}
+use mathlib.Core.Path.{_≡_, ap}
+use Prim.Native.Nat.{ℕ, _≤_}
 use native.Mathlib.Omega.{arith}
 use lib.ListN.{length}
 use borrow.Author.Needs.{needs}
@@ -11,13 +11,15 @@ use Rattle.register.specs.Held.{Held}
 use Rattle.register.specs.Limits.{max-size}
 use Rattle.sheet.specs.Number.{got}
 use Rattle.sheet.specs.Passes.{thing, blank, Laid-out}
-use Rattle.sheet.specs.Reading.{size-at, columns-at, order-at, record-read}
+use Rattle.sheet.specs.Reading.{size-test, size-at, columns-at, order-at, record-read}
 use Rattle.sheet.specs.Sheet.{Record}
 use Rattle.sheet.proofs.Formed.{columns-formed}
 use Rattle.sheet.proofs.Layouts.{laid-out}
 use Rattle.sheet.proofs.Lefts.{got-is, thing-is}
 use Rattle.sheet.proofs.Listings.{Room-for, stored-total, stored-good, stored-turned}
 use Rattle.sheet.proofs.Accepted.{record-well, size-found, columns-found, order-found}
+use Rattle.sheet.proofs.Readings.{size-got}
+use Rattle.sheet.proofs.Wider.{number-again, few-known}
 use Rattle.sheet.proofs.fill.fill.Statement.{statement}
 use Rattle.sheet.proofs.fill.fill.Tie as tie
 
@@ -35,13 +37,13 @@ module _ (s : tie.Start) where
 -- Once the size has been read.
 module _ (c : tie.After-known) where
   abbrev begun : tie.Start
-  begun = c .before .before .before .before .before .before .before .before .before
+  begun = c .before .before .before .before .before .before .before .before
 
   abbrev m : ℕ
   m = c .known .result .value
 
   size-read : size-at (bytes begun) 0 ≡ got m (c .known .result .next)
-  size-read = sym (c .before .size .ensures) ∙ c .known .ensures
+  size-read = number-again (bytes begun) size-test 1 0 (lies begun .2 .size-read) (c .known .ensures)
 
   size-is : m ≡ x begun .size
   size-is = size-found (lies begun .2) size-read
@@ -70,7 +72,10 @@ module _ (c : tie.After-fill-columns) where
   held = rw (columns-are sized) at (c .fill-columns .ensures .1)
 
 known-requires : tie.Need-known-requires
-known-requires c κs = got-is 0 (c .size .ensures ∙ lies (c .before .before .before .before .before .before .before .before) .2 .size-read)
+known-requires c κs =
+    let s = c .before .before .before .before .before .before .before in
+    let g = size-got (bytes s) 0 (lies s .2 .size-read) in
+    few-known (bytes s) 0 (g .0) (omega (arith, g .2))
 
 fill-columns-requires : tie.Need-fill-columns-requires
 fill-columns-requires c κs =
@@ -106,7 +111,6 @@ pub fill-spec : {M : Type 1} → statement M
 fill-spec =
     tie.close
     (tie.spec
-    (λ c κs. search needs)
     known-requires
     fill-columns-requires
     fill-order-requires

@@ -32,13 +32,13 @@ module _ (s : tie.Start Inv-loop μ-loop) where
 -- Once the count has been read: the turn, and what it met.
 module _ (c : tie.After-known Inv-loop μ-loop) where
   abbrev head : tie.At-loop Inv-loop μ-loop
-  head = c .before .before .before
+  head = c .before .before
 
   abbrev begun : tie.Start Inv-loop μ-loop
   begun = head .before .before .before .before
 
   met : Count-met (begun .args .bytes .now) (begun .args .m) (begun .args .place) (P begun) (head .loop .c) (head .loop .entries) (c .known .result .value) (c .known .result .next)
-  met = count-met _ _ (head .loop .inv .0) (omega arith) (c .before .count .ensures) (c .known .ensures)
+  met = count-met _ _ (begun .pre .0) (head .loop .inv .0) (omega arith) (c .known .ensures)
 
 loop-holds : tie.Need-loop-holds Inv-loop μ-loop
 loop-holds c = let s = c .before .before .before in (left-none (s .pre .1), omega arith, listed-none (room s))
@@ -47,12 +47,12 @@ slice-write-cs : tie.Need-slice-write-cs Inv-loop μ-loop
 slice-write-cs c = let l = c .before in omega (arith, l .loop .inv .2 .starts-now .long, l .before .before .before .before .pre .2)
 
 known-requires : tie.Need-known-requires Inv-loop μ-loop
-known-requires c κs = count-known _ _ (c .before .before .loop .inv .0) (omega arith) (c .count .ensures)
+known-requires c κs = let l = c .before in count-known _ _ (l .before .before .before .before .pre .0) (l .loop .inv .0) (omega arith)
 
 fill-rows-requires : tie.Need-fill-rows-requires Inv-loop μ-loop
 fill-rows-requires c κs =
     let w = c .before in
-    (begun w .pre .0, met w .rows-known, omega (arith, met w .is, listed-room (room (begun w)) (head w .loop .inv .2) (omega arith)))
+    (met w .rows-known, omega (arith, met w .is, listed-room (room (begun w)) (head w .loop .inv .2) (omega arith)))
 
 add-entries : tie.Need-add-entries Inv-loop μ-loop
 add-entries c = let f = met (c .before .before .before .before .before) .few in search needs
@@ -93,7 +93,6 @@ fill-columns-spec =
     (λ c. search needs)
     (λ c. search needs)
     slice-write-cs
-    (λ c κs. search needs)
     known-requires
     (λ c. search needs)
     fill-rows-requires

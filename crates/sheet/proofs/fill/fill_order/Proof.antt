@@ -43,13 +43,13 @@ module _ (c : tie.After-known-pair Inv-loop μ-loop) where
 
   met : Pair-met (begun head .args .bytes .now) (begun head .args .m) (begun head .args .place) (o head) (head .loop .t)
       (c .known-pair .result .row) (c .known-pair .result .column) (c .known-pair .result .next)
-  met = pair-met _ _ (head .loop .inv .0) (omega arith) _ _ (c .known-pair .ensures)
+  met = pair-met _ _ (begun head .pre .0) (head .loop .inv .0) (omega arith) _ _ (c .known-pair .ensures)
 
 loop-holds : tie.Need-loop-holds Inv-loop μ-loop
 loop-holds c = (left-none (c .before .before .before .pre .1), stored-none, stored-none)
 
 known-pair-requires : tie.Need-known-pair-requires Inv-loop μ-loop
-known-pair-requires c κs = pair-known _ _ (c .before .loop .inv .0) (omega arith)
+known-pair-requires c κs = let l = c .before in pair-known _ _ (begun l .pre .0) (l .loop .inv .0) (omega arith)
 
 cast-rows : tie.Need-cast-rows Inv-loop μ-loop
 cast-rows c = let b = met (c .before) .row-below in search needs

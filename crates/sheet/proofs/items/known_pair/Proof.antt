@@ -1,13 +1,17 @@
 -- `known_pair`: the row is there, and the column after it.
 use mathlib.Core.List.{List}
-use mathlib.Core.Path.{sym, ap, _∙_}
+use mathlib.Core.Path.{_≡_, sym, ap, _∙_}
 use Prim.Native.Nat.{ℕ}
-use borrow.Author.Needs.{needs}
+use native.Mathlib.Omega.{arith}
+use lib.Dec.{ltb}
+use Rattle.register.specs.Limits.{max-size}
+use Rattle.sheet.specs.Number.{got}
 use Rattle.sheet.specs.Passes.{thing}
 use Rattle.sheet.specs.Reading.{member-at, pair-at}
 use Rattle.sheet.proofs.Lefts.{got-is}
 use Rattle.sheet.proofs.Onward.{pair-both}
 use Rattle.sheet.proofs.Readings.{next-same, Pair-got, pair-got}
+use Rattle.sheet.proofs.Wider.{number-again, member-wider}
 use Rattle.sheet.proofs.items.known_pair.Statement.{statement}
 use Rattle.sheet.proofs.items.known_pair.Tie as tie
 
@@ -17,26 +21,33 @@ module _ (s : tie.Start) where
   bytes = s .args .bytes .now
 
   abbrev pair : ℕ × ℕ
-  pair = thing (0, 0) (pair-at bytes (s .args .m) 0 (s .args .place))
+  pair = thing (0, 0) (pair-at bytes max-size 0 (s .args .place))
 
-  read : Pair-got bytes (s .args .m) (s .args .place) pair (s .pre .next)
-  read = pair-got bytes (s .args .m) 0 (s .args .place) (s .pre .read)
+  read : Pair-got bytes max-size (s .args .place) pair (s .pre .next)
+  read = pair-got bytes max-size 0 (s .args .place) (s .pre .read)
+
+-- Once the row has been read again: the column is the one after it.
+module _ (c : tie.After-known) where
+  abbrev begun : tie.Start
+  begun = c .before .before
+
+  row : member-at (bytes begun) max-size (begun .args .place) ≡ got (c .known .result .value) (c .known .result .next)
+  row = number-again (bytes begun) (λ v. ltb v max-size) 11 (begun .args .place) (read begun .row-read) (c .known .ensures)
+
+  column : member-at (bytes begun) max-size (c .known .result .next) ≡ got (pair begun .1) (begun .pre .next)
+  column = ap (member-at (bytes begun) max-size) (next-same (sym row ∙ read begun .row-read)) ∙ read begun .column-read
 
 known-requires : tie.Need-known-requires
-known-requires c κs = got-is 0 (c .below .ensures ∙ read (c .before .before) .row-read)
+known-requires c κs = let s = c .before in got-is 0 (member-wider (bytes s) max-size 16384 (omega arith) (s .args .place) (read s .row-read))
 
 known-requires-2 : tie.Need-known-requires-2
-known-requires-2 c κs =
-    let k = c .before in
-    let s = k .before .before .before in
-    let next = next-same (sym (k .known .ensures) ∙ k .before .below .ensures ∙ read s .row-read) in
-    got-is 0 (c .below2 .ensures ∙ ap (member-at (bytes s) (s .args .m)) next ∙ read s .column-read)
+known-requires-2 c κs = got-is 0 (member-wider (bytes (begun c)) max-size 16384 (omega arith) (c .known .result .next) (column c))
 
 returns : tie.Need-returns
 returns c =
-    let k = c .before .before in
-    let s = k .before .before .before in
-    pair-both (bytes s) (s .args .m) 0 (s .args .place) (sym (k .before .below .ensures) ∙ k .known .ensures) (sym (c .before .below2 .ensures) ∙ c .known2 .ensures)
+    let k = c .before in
+    let s = begun k in
+    pair-both (bytes s) max-size 0 (s .args .place) (row k) (number-again (bytes s) (λ v. ltb v max-size) 11 (k .known .result .next) (column k) (c .known2 .ensures))
 
 pub known-pair-spec : {M : Type 1} → statement M
-known-pair-spec = tie.close (tie.spec (λ c κs. search needs) known-requires (λ c κs. search needs) known-requires-2 returns)
+known-pair-spec = tie.close (tie.spec known-requires known-requires-2 returns)

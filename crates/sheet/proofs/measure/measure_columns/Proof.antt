@@ -51,7 +51,7 @@ module _ (c : tie.After-measure-rows Inv-loop μ-loop) where
       measured-more (head r .loop .inv .1) [] (omega (arith, r .before .loop-test .taken, parts-length (begun r .args .size) (begun r .args .cs .now) (begun r .args .cr .now)))
       (rw (← seen r .is-column) (omega (arith, c .before .width .ensures, c .measure-rows .ensures, length-append (groups (length (rows r))) (rows-bytes (rows r)))))
 
-  short : n ≤ 3003000
+  short : n ≤ 26000
   short = omega (arith, again .so, gone-length again, columns-few (begun r .pre .1))
 
 returns : tie.Need-returns Inv-loop μ-loop

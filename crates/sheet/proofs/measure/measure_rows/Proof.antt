@@ -7,6 +7,7 @@ use lib.ListN.{length}
 use borrow.Author.Needs.{needs}
 use Rattle.pattern.specs.Places.{at}
 use Rattle.register.specs.Limits.{max-size}
+use Rattle.register.proofs.Rises.{rising-few}
 use Rattle.sheet.specs.Sheet.{past, row-bytes}
 use Rattle.sheet.proofs.AtPlaces.{At-row, at-row-none, row-small, at-row-more}
 use Rattle.sheet.proofs.Progress.{Measured, gone-none, gone-length, gone-all, measured-more}
@@ -42,8 +43,8 @@ module _ (c : tie.After-width Inv-loop μ-loop) where
   again : Measured row-bytes past (rows (c .before)) (l .loop .k + 1) (at (rows (c .before)) (l .loop .k) + 1) (l .loop .n + c .width .result)
   again = measured-more (l .loop .inv .1) 0 (within (c .before)) (c .width .ensures)
 
-  short : l .loop .n + c .width .result ≤ 3000
-  short = omega (arith, again .so, gone-length again, rows-few (l .loop .inv .0 .rises))
+  short : l .loop .n + c .width .result ≤ 2000
+  short = omega (arith, again .so, gone-length again, rows-few (l .loop .inv .0 .rises), rising-few (l .loop .inv .0 .rises))
 
 pub measure-rows-spec : {M : Type 1} → statement M
 measure-rows-spec =

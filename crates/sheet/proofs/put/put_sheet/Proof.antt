@@ -47,7 +47,7 @@ returns c =
 same-length : tie.Need-same-length
 same-length c =
     let s = begun (first (c .before .before .before .before .before .before)) in
-    ap length (returns c) ∙ over-length (sheet (its s)) (s .args .bytes .now) (s .pre .4)
+    ap length (returns c .1) ∙ over-length (sheet (its s)) (s .args .bytes .now) (s .pre .4)
 
 pub put-sheet-spec : {M : Type 1} → statement M
 put-sheet-spec = tie.close (tie.spec (λ c. search needs) put-requires put-columns-requires put-order-requires same-length returns)

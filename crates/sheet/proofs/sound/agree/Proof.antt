@@ -36,7 +36,7 @@ module _ (c : tie.After-known-pair Inv-loop μ-loop) where
 
   met : Pair-met (begun .args .bytes .now) (begun .args .m) (begun .args .place) o (head .loop .t)
       (c .known-pair .result .row) (c .known-pair .result .column) (c .known-pair .result .next)
-  met = pair-met _ _ (head .loop .inv .0) (omega arith) _ _ (c .known-pair .ensures)
+  met = pair-met _ _ (begun .pre .0) (head .loop .inv .0) (omega arith) _ _ (c .known-pair .ensures)
 
   -- The entry of the column that was read.
   stands-at : stands (begun .args .tops .now) (c .known-pair .result .column) ≡ stands (begun .args .tops .now) (stands (seconds o) (head .loop .t))
@@ -46,7 +46,7 @@ loop-holds : tie.Need-loop-holds Inv-loop μ-loop
 loop-holds c = (left-none (c .before .pre .1), below-none _)
 
 known-pair-requires : tie.Need-known-pair-requires Inv-loop μ-loop
-known-pair-requires c κs = pair-known _ _ (c .before .loop .inv .0) (omega arith)
+known-pair-requires c κs = let l = c .before in pair-known _ _ (l .before .before .pre .0) (l .loop .inv .0) (omega arith)
 
 mul-if1 : tie.Need-mul-if1 Inv-loop μ-loop
 mul-if1 c = let b = met (c .before) .column-below in search needs
