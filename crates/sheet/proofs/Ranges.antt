@@ -18,11 +18,15 @@ use Rattle.sheet.proofs.Tests.{count-says}
 use Rattle.sheet.proofs.Told.{told-value, told-fault}
 
 module _ (bytes : List ℕ) where
+  -- A number that was read, and passes the test.
+  pub number-passes : (test : ℕ → Bool) (reply p : ℕ) {v next : ℕ} → number bytes p ≡ got v next → test v ≡ true → number-that bytes test reply p ≡ got v next
+  unfolding number-that onward
+  number-passes test reply p e t = rw (e, t)
+
   -- A number that must pass a test, by what was said of the number: it passes, it fails, there is none.
   module _ (test : ℕ → Bool) (reply p : ℕ) {said : Number} (e : told said ≡ number bytes p) where
     pub told-passes : {v next : ℕ} → said ≡ Value v next → test v ≡ true → got v next ≡ number-that bytes test reply p
-    unfolding number-that onward
-    told-passes f t = rw (told-value e f, t)
+    told-passes f t = sym (number-passes test reply p (told-value e f) t)
 
     pub told-fails : {v next : ℕ} → said ≡ Value v next → test v ≡ false → bad reply p ≡ number-that bytes test reply p
     unfolding number-that onward

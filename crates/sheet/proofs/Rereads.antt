@@ -4,19 +4,18 @@ use mathlib.Core.List.{List, []}
 use mathlib.Core.Path.{_≡_, sym, ap, _∙_}
 use Prim.Native.Nat.{ℕ, _+_, _≤_, _<_}
 use native.Mathlib.Omega.{arith}
-use lib.Dec.{ltb}
 use lib.ListN.{length, getD, List·getD-map}
 use Rattle.pattern.specs.Pattern.{column}
 use Rattle.pattern.specs.Places.{at}
 use Rattle.register.specs.Limits.{max-size, max-total}
 use Rattle.sheet.specs.Number.{Read, got, number}
-use Rattle.sheet.specs.Passes.{thing, Got}
-use Rattle.sheet.specs.Reading.{number-that, row-at, rows-at, column-at, pair-at}
+use Rattle.sheet.specs.Passes.{thing, Got, Short}
+use Rattle.sheet.specs.Reading.{row-at, rows-at, column-at, pair-at}
 use Rattle.sheet.specs.Sheet.{firsts, seconds, past, grown, counted}
 use Rattle.sheet.proofs.Onward.{pair-any}
 use Rattle.sheet.proofs.Lefts.{got-is, thing-is, Left, Next, left-next}
 use Rattle.sheet.proofs.Readings.{thing-same, next-same, Row-got, row-got, count-got, Column-got, column-got, member-got, pair-got}
-use Rattle.sheet.proofs.Wider.{few-known, rows-wider, pair-wider}
+use Rattle.sheet.proofs.Wider.{short, rows-wider, pair-wider}
 
 -- What is read is what was read.
 module _ {A : Type 0} {r : Read A} {x y : A} {n k : ℕ} (f : r ≡ got x n) (g : r ≡ got y k) where
@@ -25,10 +24,6 @@ module _ {A : Type 0} {r : Read A} {x y : A} {n k : ℕ} (f : r ≡ got x n) (g 
 
   same-next : k ≡ n
   same-next = next-same (sym g ∙ f)
-
--- That a number below 16,384 begins at `p`.
-abbrev Few : (bytes : List ℕ) (p : ℕ) → Type 0
-Few bytes p = Got 0 (number-that bytes (λ v. ltb v 16384) 11 p)
 
 -- ---- A row
 
@@ -49,8 +44,8 @@ module _ (bytes : List ℕ) {n place : ℕ} {R : List ℕ} {j least p : ℕ} (l 
   row-read : Row-got bytes max-size least p (at R j) (row-next .middle)
   row-read = row-got bytes max-size least p (row-next .read)
 
-  pub row-known : Few bytes p
-  row-known = few-known bytes p (row-read .gap-got) (omega (arith, row-read .is, row-read .below))
+  pub row-known : Short bytes p
+  row-known = short bytes p (row-read .gap-got) (omega (arith, row-read .is, row-read .below))
 
   pub row-met : {gap q : ℕ} → number bytes p ≡ got gap q → Row-met bytes n place R j (least + gap) q
   row-met {gap} {q} k =
@@ -121,8 +116,8 @@ module _ (bytes : List ℕ) (m : ℕ) (small : m ≤ max-size) {place : ℕ} {P 
   count-read : (number bytes p ≡ got (length (column P c)) (next-column .middle)) × (length (column P c) ≤ m) × (entries + length (column P c) ≤ max-total)
   count-read = count-got bytes m entries p (next-column .count-read)
 
-  pub count-known : Few bytes p
-  count-known = few-known bytes p (count-read .0) (omega (arith, count-read .1))
+  pub count-known : Short bytes p
+  count-known = short bytes p (count-read .0) (omega (arith, count-read .1))
 
   pub count-met : {n q : ℕ} → number bytes p ≡ got n q → Count-met bytes m place P c entries n q
   count-met {n} {q} k =

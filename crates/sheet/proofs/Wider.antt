@@ -1,6 +1,6 @@
 -- A limit may be raised: a number, a row, a pair or rows that were read are read the same where more would pass.
--- Rests on Onward.antt, Readings.antt and Lefts.antt.
-use mathlib.Core.Bool.{Bool, true}
+-- Rests on Onward.antt, Ranges.antt and Readings.antt.
+use mathlib.Core.Bool.{Bool}
 use mathlib.Core.List.{List, _∷_}
 use mathlib.Core.Path.{_≡_, sym, ap, _∙_}
 use Prim.Native.Nat.{ℕ, zero, suc, _+_, _≤_, _<_}
@@ -8,11 +8,11 @@ use native.Mathlib.Omega.{arith}
 use lib.Dec.{ltb}
 use borrow.Author.Tests.{lt-ltb}
 use Rattle.sheet.specs.Number.{Read, got, number}
-use Rattle.sheet.specs.Passes.{Got}
+use Rattle.sheet.specs.Passes.{Short}
 use Rattle.sheet.specs.Reading.{onward, number-that, many, row-at, member-at, pair-at}
 use Rattle.sheet.specs.Sheet.{past}
-use Rattle.sheet.proofs.Lefts.{got-is}
 use Rattle.sheet.proofs.Onward.{onward-on, pair-both}
+use Rattle.sheet.proofs.Ranges.{number-passes}
 use Rattle.sheet.proofs.Readings.{many-next, number-that-got, row-got, member-got, pair-got}
 
 -- Many things are read the same where one is.
@@ -27,25 +27,20 @@ many-same {A} one one′ after same (suc n) s p {L} {end} e =
     ∙ ap (λ (l : List A). got l end) (sym (b .is))
 
 module _ (bytes : List ℕ) where
-  -- A number that was read, and passes the test.
-  number-passes : (test : ℕ → Bool) (reply p : ℕ) {v next : ℕ} → number bytes p ≡ got v next → test v ≡ true → number-that bytes test reply p ≡ got v next
-  unfolding number-that onward
-  number-passes test reply p e t = rw (e, t)
-
-  -- One that passed it before is read as it is without the test.
+  -- A number that passed a test before is read as it is without the test.
   pub number-again : (test : ℕ → Bool) (reply p : ℕ) {v w next k : ℕ} → number-that bytes test reply p ≡ got w k → number bytes p ≡ got v next
       → number-that bytes test reply p ≡ got v next
   number-again test reply p e f = e ∙ sym (number-that-got bytes test reply p e .0) ∙ f
 
-  -- One below 16,384, which has one group or two.
-  pub few-known : (p : ℕ) {v next : ℕ} → number bytes p ≡ got v next → v < 16384 → Got 0 (number-that bytes (λ v. ltb v 16384) 11 p)
-  few-known p {v} e h = got-is 0 (number-passes (λ v. ltb v 16384) 11 p e (lt-ltb v 16384 h))
+  -- One below 16,384.
+  pub short : (p : ℕ) {v next : ℕ} → number bytes p ≡ got v next → v < 16384 → Short bytes p
+  short p {v} {next} e h = record { value = v; next = next; read = e; small = h }
 
   -- A row, by the gap that was read.
   row-below : (m least p : ℕ) {gap next : ℕ} → number bytes p ≡ got gap next → least + gap < m → row-at bytes m least p ≡ got (least + gap) next
   unfolding row-at
   row-below m least p {gap} e h =
-      onward-on (λ gap next. got (least + gap) next) (number-passes (λ gap. ltb (least + gap) m) 11 p e (lt-ltb (least + gap) m h))
+      onward-on (λ gap next. got (least + gap) next) (number-passes bytes (λ gap. ltb (least + gap) m) 11 p e (lt-ltb (least + gap) m h))
 
   -- From the limit `m` to the limit `n`.
   module _ (m n : ℕ) (wide : m ≤ n) where
@@ -57,8 +52,8 @@ module _ (bytes : List ℕ) where
     pub rows-wider : (k s p : ℕ) {L : List ℕ} {end : ℕ} → many (row-at bytes m) past k s p ≡ got L end → many (row-at bytes n) past k s p ≡ got L end
     rows-wider = many-same (row-at bytes m) (row-at bytes n) past (λ s p r next. row-wider s p)
 
-    pub member-wider : (p : ℕ) {v next : ℕ} → member-at bytes m p ≡ got v next → member-at bytes n p ≡ got v next
-    member-wider p {v} e = let g = member-got bytes m p e in number-passes (λ v. ltb v n) 11 p (g .0) (lt-ltb v n (omega (arith, g .1)))
+    member-wider : (p : ℕ) {v next : ℕ} → member-at bytes m p ≡ got v next → member-at bytes n p ≡ got v next
+    member-wider p {v} e = let g = member-got bytes m p e in number-passes bytes (λ v. ltb v n) 11 p (g .0) (lt-ltb v n (omega (arith, g .1)))
 
     pub pair-wider : (t p : ℕ) {x : ℕ × ℕ} {next : ℕ} → pair-at bytes m t p ≡ got x next → pair-at bytes n t p ≡ got x next
     pair-wider t p e =

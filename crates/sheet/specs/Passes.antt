@@ -1,10 +1,10 @@
 -- What one pass over a sheet finds, for the contracts of the steps of reading. Rests on Reading.antt and Reply.antt.
 use mathlib.Core.List.{List, []}
 use mathlib.Core.Path.{_≡_}
-use Prim.Native.Nat.{ℕ}
+use Prim.Native.Nat.{ℕ, _<_}
 use lib.ListN.{length}
 use Rattle.register.specs.Reply as register
-use Rattle.sheet.specs.Number.{Read, got, bad}
+use Rattle.sheet.specs.Number.{Read, got, bad, number}
 use Rattle.sheet.specs.Reading.{onward, size-at, columns-at, order-at, record-read}
 use Rattle.sheet.specs.Sheet.{Record, total}
 use Rattle.sheet.specs.declared.scan.Scanned.{Scanned}
@@ -23,6 +23,13 @@ thing other (bad n p) = other
 pub record Got {A : Type 0} (other : A) (r : Read A) : Type 0 where
   pub next : ℕ
   pub read : r ≡ got (thing other r) next
+
+-- A number below 16,384 begins at place `p`, so it has one group or two.
+pub record Short (bytes : List ℕ) (p : ℕ) : Type 0 where
+  pub value : ℕ
+  pub next : ℕ
+  pub read : number bytes p ≡ got value next
+  pub small : value < 16384
 
 -- No record: what stands for one where a sheet is refused.
 abbrev pub blank : Record

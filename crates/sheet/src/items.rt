@@ -10,7 +10,7 @@ ghost use Prim.Native.Nat.{ℕ, _≤_};
 ghost use lib.Dec.{ltb};
 ghost use Rattle.register.specs.Limits.{max-size, max-total};
 ghost use Rattle.sheet.specs.Number.{got, number};
-ghost use Rattle.sheet.specs.Passes.{Got};
+ghost use Rattle.sheet.specs.Passes.{Got, Short};
 ghost use Rattle.sheet.specs.Reading.{number-that, size-at, row-at, count-at, pair-at};
 ghost use Rattle.sheet.specs.Reply.{told};
 
@@ -74,7 +74,7 @@ pub fn row(bytes: &[u8], place: usize, m: u32, least: u32) -> Number
 
 // The number that begins at this place, where it is known to have one group or two.
 pub fn known(bytes: &[u8], place: usize) -> Step
-    requires { ⌜ Got 0 (number-that (now bytes) (λ (v : ℕ). ltb v 16384) 11 place) ⌝ }
+    requires { ⌜ Short (now bytes) place ⌝ }
     ensures { λ r. ⌜ number (now (bytes .entry)) place ≡ got (r .value) (r .next) ⌝ }
 {
     if place + 1 == bytes.len() {

@@ -19,7 +19,7 @@ use Rattle.sheet.proofs.Lefts.{got-is, thing-is}
 use Rattle.sheet.proofs.Listings.{Room-for, stored-total, stored-good, stored-turned}
 use Rattle.sheet.proofs.Accepted.{record-well, size-found, columns-found, order-found}
 use Rattle.sheet.proofs.Readings.{size-got}
-use Rattle.sheet.proofs.Wider.{number-again, few-known}
+use Rattle.sheet.proofs.Wider.{number-again, short}
 use Rattle.sheet.proofs.fill.fill.Statement.{statement}
 use Rattle.sheet.proofs.fill.fill.Tie as tie
 
@@ -75,7 +75,7 @@ known-requires : tie.Need-known-requires
 known-requires c κs =
     let s = c .before .before .before .before .before .before .before in
     let g = size-got (bytes s) 0 (lies s .2 .size-read) in
-    few-known (bytes s) 0 (g .0) (omega (arith, g .2))
+    short (bytes s) 0 (g .0) (omega (arith, g .2))
 
 fill-columns-requires : tie.Need-fill-columns-requires
 fill-columns-requires c κs =

@@ -3,12 +3,9 @@ use mathlib.Core.List.{List}
 use mathlib.Core.Path.{ap₂, sym, _∙_}
 use Prim.Native.Nat.{ℕ}
 use native.Mathlib.Omega.{arith}
-use lib.Dec.{ltb}
 use borrow.Author.Needs.{needs}
-use borrow.Author.Tests.{ltb-true}
 use Rattle.sheet.specs.Number.{Bytes, got}
 use Rattle.sheet.proofs.FewGroups.{Few-groups, few-groups, few-read, last-read}
-use Rattle.sheet.proofs.Readings.{number-that-got}
 use Rattle.sheet.proofs.items.known.Statement.{statement}
 use Rattle.sheet.proofs.items.known.Tie as tie
 
@@ -23,7 +20,7 @@ module _ (c : tie.After-shared-slice-known) where
   small i h = c .shared-slice-known .given i .fits
 
   few : Few-groups bytes p
-  few = let a = number-that-got bytes (λ v. ltb v 16384) 11 p (c .before .pre .read) in few-groups bytes p small (a .0) (ltb-true _ 16384 (a .1))
+  few = let n = c .before .pre in few-groups bytes p small (n .read) (n .small)
 
 add-if1 : tie.Need-add-if1
 add-if1 c = let h = few c .inside in search needs

@@ -6,12 +6,11 @@ use native.Mathlib.Omega.{arith}
 use lib.Dec.{ltb}
 use Rattle.register.specs.Limits.{max-size}
 use Rattle.sheet.specs.Number.{got}
-use Rattle.sheet.specs.Passes.{thing}
+use Rattle.sheet.specs.Passes.{thing, Short}
 use Rattle.sheet.specs.Reading.{member-at, pair-at}
-use Rattle.sheet.proofs.Lefts.{got-is}
 use Rattle.sheet.proofs.Onward.{pair-both}
-use Rattle.sheet.proofs.Readings.{next-same, Pair-got, pair-got}
-use Rattle.sheet.proofs.Wider.{number-again, member-wider}
+use Rattle.sheet.proofs.Readings.{next-same, member-got, Pair-got, pair-got}
+use Rattle.sheet.proofs.Wider.{number-again, short}
 use Rattle.sheet.proofs.items.known_pair.Statement.{statement}
 use Rattle.sheet.proofs.items.known_pair.Tie as tie
 
@@ -37,11 +36,15 @@ module _ (c : tie.After-known) where
   column : member-at (bytes begun) max-size (c .known .result .next) ≡ got (pair begun .1) (begun .pre .next)
   column = ap (member-at (bytes begun) max-size) (next-same (sym row ∙ read begun .row-read)) ∙ read begun .column-read
 
+-- A row or a column of the order has one group or two.
+member-short : (bytes : List ℕ) (p : ℕ) {v next : ℕ} → member-at bytes max-size p ≡ got v next → Short bytes p
+member-short bytes p e = let g = member-got bytes max-size p e in short bytes p (g .0) (omega (arith, g .1))
+
 known-requires : tie.Need-known-requires
-known-requires c κs = let s = c .before in got-is 0 (member-wider (bytes s) max-size 16384 (omega arith) (s .args .place) (read s .row-read))
+known-requires c κs = let s = c .before in member-short (bytes s) (s .args .place) (read s .row-read)
 
 known-requires-2 : tie.Need-known-requires-2
-known-requires-2 c κs = got-is 0 (member-wider (bytes (begun c)) max-size 16384 (omega arith) (c .known .result .next) (column c))
+known-requires-2 c κs = member-short (bytes (begun c)) (c .known .result .next) (column c)
 
 returns : tie.Need-returns
 returns c =
