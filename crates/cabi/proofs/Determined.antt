@@ -1,16 +1,19 @@
--- No two results, with what they leave, satisfy the statement of a function for one input. Rests on `register` and `sheet`.
+-- No two results, with what they leave, satisfy the statement of a function for one input. Rests on `listing`, `register`,
+-- `judge`, `sheet` and `replace`.
 use mathlib.Core.List.{List}
 use mathlib.Core.Path.{_≡_, sym, ap, _∙_}
 use Prim.Native.Nat.{ℕ, _+_}
 use native.Mathlib.Omega.{arith}
-use Rattle.register.specs.Checks.{First-fault, Call}
+use Rattle.listing.specs.Look.{Spans}
+use Rattle.register.specs.Checks.{First-fault}
 use Rattle.register.specs.Lent.{Lists}
-use Rattle.register.specs.Look.{Spans}
-use Rattle.register.specs.Replace.{Outcome, outcome}
-use Rattle.register.proofs.Determined.{fault-one, span-determined, outcome-one}
+use Rattle.register.proofs.Determined.{fault-one, span-determined}
+use Rattle.judge.specs.Call.{Call}
 use Rattle.sheet.specs.Reads.{Read-in, read-in}
 use Rattle.sheet.specs.Writes.{Written-out, written-out}
 use Rattle.sheet.proofs.Determined.{written-one, read-one}
+use Rattle.replace.specs.Replace.{Outcome, outcome}
+use Rattle.replace.proofs.Determined.{outcome-one}
 use Rattle.cabi.specs.Code.{code}
 use Rattle.cabi.specs.Replace.{Gives}
 use Rattle.cabi.specs.Sheets.{sheet-code, figure, Gives-sheet, Gives-register}

@@ -1,4 +1,5 @@
--- A replacement's reply is read off what C has: no two answers go by one number. Rests on `register` and `pattern`.
+-- A replacement's reply is read off what C has: no two answers go by one number. Rests on `pattern`, `register`, `judge` and
+-- `replace`.
 use mathlib.Core.Bool.{cond}
 use mathlib.Core.List.{List}
 use mathlib.Core.Path.{_≡_, refl, sym, ap, _∙_, subst}
@@ -6,10 +7,10 @@ use Prim.Native.Nat.{ℕ}
 use lib.Dec.{eqb, ltb}
 use Rattle.pattern.specs.Verdict.{Verdict, Singular, Permuted, Elimination}
 use Rattle.pattern.proofs.Rungs.{unless-both}
-use Rattle.register.specs.Checks.{Call}
 use Rattle.register.specs.Lent.{Lists}
-use Rattle.register.specs.Replace.{Outcome, outcome, after, Replaces}
-use Rattle.register.specs.Reply.{Answer, REFUSED, SINGULAR, PERMUTED, ELIMINATION, Reply}
+use Rattle.judge.specs.Call.{Call}
+use Rattle.replace.specs.Replace.{Outcome, outcome, after, Replaces}
+use Rattle.replace.specs.Reply.{Answer, REFUSED, SINGULAR, PERMUTED, ELIMINATION, Reply}
 use Rattle.cabi.specs.Code.{code}
 use Rattle.cabi.specs.Replace.{Gives}
 

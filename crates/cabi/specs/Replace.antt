@@ -1,11 +1,11 @@
--- Replacement of a column as C has it: what a call gives back. Rests on Code.antt and `register`.
+-- Replacement of a column as C has it: what a call gives back. Rests on Code.antt, `register`, `judge` and `replace`.
 use mathlib.Core.List.{List}
 use mathlib.Core.Path.{_≡_}
 use Prim.Native.Nat.{ℕ}
-use Rattle.register.specs.Checks.{Call}
 use Rattle.register.specs.Lent.{Lists}
-use Rattle.register.specs.Replace.{outcome, Replaces}
-use Rattle.register.specs.Reply.{Reply}
+use Rattle.judge.specs.Call.{Call}
+use Rattle.replace.specs.Replace.{outcome, Replaces}
+use Rattle.replace.specs.Reply.{Reply}
 use Rattle.cabi.specs.Code.{code}
 
 -- The right reply to the call, with what it leaves in the lists: its answer as the result, its bump and its eta count in

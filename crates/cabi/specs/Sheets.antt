@@ -1,4 +1,4 @@
--- Writing and reading a sheet as C has it: what a call gives back. Rests on `sheet` and `register`.
+-- Writing and reading a sheet as C has it: what a call gives back. Rests on `register` and `sheet`.
 use mathlib.Core.List.{List}
 use mathlib.Core.Path.{_≡_}
 use Prim.Native.Nat.{ℕ}

@@ -1,16 +1,18 @@
 // The register for C: numbers and lists alone. A list comes as a pointer and a length, as include/scrollbobbin.h has it.
 mod sheets;
 
+use judge::Judgment;
 use register::Checked;
-use register::Judgment;
 use register::Register;
-use register::Replaced;
+use replace::Replaced;
+use replace::replace;
 ghost use mathlib.Core.Path.{_≡_};
 ghost use Prim.Native.Nat.{_+_};
-ghost use Rattle.register.specs.Checks.{First-fault, call};
+ghost use Rattle.listing.specs.Look.{Spans};
+ghost use Rattle.register.specs.Checks.{First-fault};
 ghost use Rattle.register.specs.Lent.{lists};
-ghost use Rattle.register.specs.Look.{Spans};
-ghost use Rattle.register.specs.Reply.{reply};
+ghost use Rattle.judge.specs.Call.{call};
+ghost use Rattle.replace.specs.Reply.{reply};
 ghost use Rattle.cabi.specs.Code.{code};
 ghost use Rattle.cabi.specs.Replace.{Gives};
 
@@ -122,7 +124,8 @@ pub extern "C" fn scrollbobbin_replace(
         (now («order_rows» .exit)) (now («order_cols» .exit)))
         (now (eta .exit)) ⌝ }
 {
-    let replaced = (Register { size }).replace(
+    let replaced = replace(
+        size,
         col_starts,
         col_rows,
         row_starts,

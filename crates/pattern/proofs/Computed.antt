@@ -14,26 +14,7 @@ use Rattle.pattern.specs.Pattern.{has}
 use Rattle.pattern.specs.Peel.{Whole}
 use Rattle.pattern.specs.Series.{numbers}
 use Rattle.pattern.specs.Reach.{Reach}
-use Rattle.pattern.specs.Verdict.{
-  Replacement,
-  size,
-  row-at,
-  col-at,
-  old-place,
-  c-place,
-  Old,
-  spiked-columns,
-  Spike,
-  Taken,
-  Verdict,
-  Singular,
-  Permuted,
-  Elimination,
-  to-last,
-  top-place,
-  Eta,
-  Judged,
-}
+use Rattle.pattern.specs.Verdict.{Replacement, size, row-at, col-at, old-place, c-place, Old, spiked-columns, Spike, Taken, Verdict, Singular, Permuted, Elimination, to-last, top-place, Eta, Judged}
 use Rattle.pattern.proofs.Tests.{T-true, T-false, eq-eqb, and-both, and-left, and-right, meets, meets-some, some-meets}
 use Rattle.pattern.proofs.Pairing.{partner, paired-partner, order-choice}
 use Rattle.pattern.proofs.Leading.{greedy-leads}

@@ -21,6 +21,7 @@ pub mod Peeled
 pub mod Reaching
 pub mod Numbers
 pub mod Each
+pub mod Pairs
 pub mod Turning
 pub mod Tallies
 pub mod Flats

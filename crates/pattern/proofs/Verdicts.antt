@@ -15,27 +15,7 @@ use Rattle.pattern.specs.Order.{Sound, Sound-order, Triangular, Paired}
 use Rattle.pattern.specs.Pattern.{Pattern, has, column, Rows-below, Spiked, Cleared}
 use Rattle.pattern.specs.Places.{at, Once, Same, place}
 use Rattle.pattern.specs.Reach.{Reach}
-use Rattle.pattern.specs.Verdict.{
-  Replacement,
-  size,
-  row-at,
-  col-at,
-  old-place,
-  c-place,
-  c-row,
-  Old,
-  spiked-columns,
-  Spike,
-  Taken,
-  Verdict,
-  Singular,
-  Permuted,
-  Elimination,
-  top-place,
-  Is-permuted,
-  Is-elimination,
-  Judged,
-}
+use Rattle.pattern.specs.Verdict.{Replacement, size, row-at, col-at, old-place, c-place, c-row, Old, spiked-columns, Spike, Taken, Verdict, Singular, Permuted, Elimination, top-place, Is-permuted, Is-elimination, Judged}
 use Rattle.pattern.proofs.Finding.{place-at, place-once}
 use Rattle.pattern.proofs.Pairing.{col-place, order-choice}
 use Rattle.pattern.proofs.Leading.{greedy-leads, own-greedy, leading-unique}

@@ -1,10 +1,12 @@
--- Orders that pair rows with columns, and when an order and a register are sound. Rests on Pattern.antt and Places.antt.
+-- Orders that pair rows with columns, and when an order and a register are sound. Rests on Pattern.antt, Places.antt and
+-- Series.antt.
 use mathlib.Core.List.{List}
 use mathlib.Core.Path.{_≡_}
 use Prim.Native.Nat.{ℕ, _≤_, _<_}
 use lib.ListN.{length}
 use Rattle.pattern.specs.Pattern.{Pattern, Entry, Rows-below}
 use Rattle.pattern.specs.Places.{at, Once}
+use Rattle.pattern.specs.Series.{each}
 
 -- A sound order of size `m`: place `t` pairs row `row t` with column `col t`. Each number below `m` stands once among the
 -- rows and once among the columns, each pair is itself an entry, and an entry (row of place s, column of place t) has s at
@@ -33,3 +35,7 @@ Triangular E m = (row : ℕ → ℕ) × (col : ℕ → ℕ) × Sound E m row col
 -- Row `r` and column `c` are a pair: they stand at one place of the order.
 abbrev pub Paired : ℕ → (ℕ → ℕ) → (ℕ → ℕ) → ℕ → ℕ → Type 0
 Paired m row col r c = (t : ℕ) × (t < m) × (row t ≡ r) × (col t ≡ c)
+
+-- The pairs of the first `m` places of two lists.
+abbrev pub pairs : ℕ → List ℕ → List ℕ → List (ℕ × ℕ)
+pairs m rows cols = each (λ t. (at rows t, at cols t)) m

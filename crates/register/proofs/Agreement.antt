@@ -1,5 +1,5 @@
 -- A row listing is well formed and lists the same entries exactly when it is the columns turned; and where a walk through all
--- columns ends, exactly when each cursor is at its row's end. Rests on Listings.antt and Passing.antt.
+-- columns ends, exactly when each cursor is at its row's end. Rests on Passing.antt and `listing`.
 use mathlib.Core.List.{List}
 use mathlib.Core.Path.{_≡_, sym, ap, _∙_}
 use Prim.Native.Nat.{ℕ, _+_, _<_}
@@ -10,10 +10,10 @@ use Rattle.pattern.specs.Places.{at}
 use Rattle.pattern.specs.Turned.{row-of, Same-entries}
 use Rattle.pattern.proofs.Numbers.{numbers-rise}
 use Rattle.pattern.proofs.Turning.{rows-same, same-rows}
-use Rattle.register.specs.Listing.{between, parts, Room, Starts, Listing, Good}
-use Rattle.register.specs.Walk.{Rows-turned}
-use Rattle.register.proofs.Between.{between-length}
-use Rattle.register.proofs.Listings.{part-is, part-within, parts-columns, good-columns}
+use Rattle.listing.specs.Listing.{between, parts, Room, Starts, Listing, Good}
+use Rattle.listing.specs.Walk.{Rows-turned}
+use Rattle.listing.proofs.Between.{between-length}
+use Rattle.listing.proofs.Listings.{part-is, part-within, parts-columns, good-columns}
 use Rattle.register.proofs.Passing.{Passed}
 
 module _ {m : ℕ} {cs cr : List ℕ} (rs rc : List ℕ) (G : Good m cs cr) where

@@ -1,4 +1,4 @@
--- The checks of a call as tests that compute, and what each says. Rests on Deciding.antt, Listings.antt and `pattern`.
+-- The checks of a call as tests that compute, and what each says. Rests on Deciding.antt, `pattern` and `listing`.
 use mathlib.Core.Bool.{Bool, not, _&&_, _||_}
 use mathlib.Core.List.{List}
 use mathlib.Core.Path.{sym, subst}
@@ -12,27 +12,14 @@ use Rattle.pattern.specs.Rising.{Rising}
 use Rattle.pattern.specs.Turned.{turned, Same-entries}
 use Rattle.pattern.proofs.Rises.{rising, test-rising, rising-test}
 use Rattle.pattern.proofs.Turning.{turned-same, turned-only}
+use Rattle.listing.specs.Limits.{Sized, max-size, max-total}
+use Rattle.listing.specs.Listing.{part, Room, Starts, Listing}
+use Rattle.listing.specs.Says.{Says}
+use Rattle.listing.proofs.Answers.{says-as}
+use Rattle.listing.proofs.Listings.{parts-columns}
 use Rattle.register.specs.Checks.{Fits}
-use Rattle.register.specs.Lent.{Lists, Sized, columns, rows, Long, Formed, Listings-agree}
-use Rattle.register.specs.Limits.{max-size, max-total}
-use Rattle.register.specs.Listing.{part, Room, Starts, Listing}
-use Rattle.register.specs.Says.{Says}
-use Rattle.register.proofs.Answers.{says-as}
-use Rattle.register.proofs.Deciding.{
-  says-by,
-  says-itself,
-  says-equal,
-  says-most,
-  says-below,
-  says-both,
-  says-if,
-  all,
-  says-all,
-  says-pairs,
-  alike,
-  says-alike,
-}
-use Rattle.register.proofs.Listings.{parts-columns}
+use Rattle.register.specs.Lent.{Lists, columns, rows, Long, Formed, Listings-agree}
+use Rattle.register.proofs.Deciding.{says-by, says-itself, says-equal, says-most, says-below, says-both, says-if, all, says-all, says-pairs, alike, says-alike}
 
 -- ---- The checks of a register
 

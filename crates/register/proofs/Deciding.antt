@@ -1,5 +1,5 @@
 -- Tests that compute, and what their answers say: of two numbers, of two tests together, of all numbers below a bound, of two
--- lists; and a ladder of checks that computes. Rests on Answers.antt and `pattern`.
+-- lists; and a ladder of checks that computes. Rests on `pattern` and `listing`.
 use mathlib.Core.Bool.{Bool, true, false, cond, not, _&&_, _||_}
 use mathlib.Core.List.{List, [], _∷_}
 use mathlib.Core.Logic.{⊎-elim}
@@ -10,8 +10,8 @@ use lib.Dec.{T, T-not, not-T, eqb, eqb→eq, leb, leb→le, le→leb, ltb, ltb�
 use Rattle.pattern.specs.Ladder.{Unless, fails, holds}
 use Rattle.pattern.proofs.Search.{last-or}
 use Rattle.pattern.proofs.Tests.{eq-eqb, and-both, and-left, and-right, or-cases, or-left, or-right, T-dec}
-use Rattle.register.specs.Says.{Says}
-use Rattle.register.proofs.Answers.{told-yes, told-no, says-as}
+use Rattle.listing.specs.Says.{Says}
+use Rattle.listing.proofs.Answers.{told-yes, told-no, says-as}
 
 -- ---- One test
 

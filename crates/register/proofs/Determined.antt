@@ -1,37 +1,36 @@
--- No two replies satisfy the statement of a public function for one input. Rests on Calls.antt and `pattern`.
+-- No two replies satisfy the statement of a function for one input. Rests on specs/Checks.antt, specs/Lent.antt, `pattern`
+-- and `listing`.
 use mathlib.Core.Bool.{Bool}
 use mathlib.Core.List.{List, [], _∷_}
 use mathlib.Core.Path.{_≡_, refl, sym, ap, _∙_}
-use Prim.Native.Nat.{ℕ, zero, suc}
+use Prim.Native.Nat.{ℕ, _<_}
 use native.Mathlib.Omega.{arith}
 use lib.ListN.{getD}
 use lib.Seq.{ext-getD}
+use Rattle.pattern.specs.Places.{at}
 use Rattle.pattern.proofs.Rungs.{unless-one}
-use Rattle.pattern.proofs.Verdicts.{judged-unique}
-use Rattle.register.specs.Checks.{First-fault, Call}
-use Rattle.register.specs.Held.{Held, Takes}
+use Rattle.listing.specs.Contract.{Determined}
+use Rattle.listing.specs.Listing.{between}
+use Rattle.listing.specs.Look.{Spans, Looked}
+use Rattle.listing.specs.Says.{Says}
+use Rattle.listing.proofs.Answers.{says-same}
+use Rattle.listing.proofs.Determined.{same, spans-one}
+use Rattle.register.specs.Checks.{First-fault}
+use Rattle.register.specs.Takes.{Takes}
 use Rattle.register.specs.Lent.{Lists, Fresh}
-use Rattle.register.specs.Listing.{between}
-use Rattle.register.specs.Look.{Spans, Looked}
 use Rattle.register.specs.Marks.{unmarked}
-use Rattle.register.specs.Replace.{Outcome, outcome, asked, after, Replaces}
-use Rattle.register.specs.Reply.{Answer, REFUSED, SINGULAR, PERMUTED, ELIMINATION, Reply, number, fault, reply}
-use Rattle.register.specs.Says.{Says}
+use Rattle.register.specs.Order.{Placed}
+use Rattle.register.specs.Reply.{number, fault}
 use Rattle.register.specs.Start.{Started, started, Starts-with}
 use Rattle.register.specs.declared.Checked.{Checked}
 use Rattle.register.specs.declared.Checked.the-variants.{Sound, Refused}
 use Rattle.register.specs.declared.Refusal.{Refusal}
 use Rattle.register.specs.declared.Refusal.the-variants.{Size, ShortList, MalformedListing, ListingsDiffer, OrderUnsound, ColumnNumber, NewColumn, NoRoom, SheetCut, SheetNumber, SheetRange, SheetSurplus}
-use Rattle.register.specs.declared.Judgment.the-variants.{Singular, Permuted, Elimination}
-use Rattle.register.specs.declared.Replaced.{Replaced}
-use Rattle.register.specs.declared.Replaced.the-variants as replaced
 use Rattle.register.specs.declared.marks.Marks.{Marks}
-use Rattle.register.proofs.Answers.{says-same}
-use Rattle.register.proofs.Calls.{call-judged}
-
--- A statement that gives its reply by an equation has one.
-same : {A : Type 0} {x y z : A} → x ≡ z → y ≡ z → x ≡ y
-same e f = e ∙ sym f
+use Rattle.register.proofs.marks.Marks.none.Kinds as none-kinds
+use Rattle.register.proofs.marks.Marks.none.Reads as none
+use Rattle.register.proofs.places.top_place.Kinds as top-place-kinds
+use Rattle.register.proofs.places.top_place.Reads as top-place
 
 -- ---- The reply of a number
 
@@ -53,10 +52,10 @@ replies =
     ∷ Refused SheetSurplus
     ∷ []
 
-reply-of : ℕ → Checked
+pub reply-of : ℕ → Checked
 reply-of n = getD replies n Sound
 
-reply-back : (r : Checked) → reply-of (fault r) ≡ r
+pub reply-back : (r : Checked) → reply-of (fault r) ≡ r
 unfolding replies reply-of
 reply-back Sound = refl
 reply-back (Refused Size) = refl
@@ -109,55 +108,21 @@ start-determined m l r r′ k k′ f f′ =
 
 -- A look's part has one beginning and one end.
 pub span-determined : (m c : ℕ) (starts rows : List ℕ) (s s′ : ℕ × ℕ) → Spans m c starts rows s → Spans m c starts rows s′ → s ≡ s′
-span-determined m c starts rows = unless-one (λ _ s s′. same)
+span-determined = spans-one
 
 pub look-determined : (m c : ℕ) (starts rows p p′ : List ℕ) → Looked m c starts rows p → Looked m c starts rows p′ → p ≡ p′
 look-determined m c starts rows p p′ f f′ =
     let e = span-determined m c starts rows (f .from, f .to) (f′ .from, f′ .to) (f .spans) (f′ .spans) in
     f .taken ∙ ap (λ (s : ℕ × ℕ). between (s .0) (s .1) rows) e ∙ sym (f′ .taken)
 
-pub turn-determined : (P : List (List ℕ)) (s e s₁ e₁ s₂ e₂ : List ℕ) → Held P s e s₁ e₁ → Held P s e s₂ e₂ → (s₁ ≡ s₂) × (e₁ ≡ e₂)
-turn-determined P s e s₁ e₁ s₂ e₂ f f′ = (same (f .starts-after) (f′ .starts-after), same (f .entries-after) (f′ .entries-after))
+-- ---- Inner functions
 
--- ---- A replacement
+pub none-determined : Determined none-kinds.ps none-kinds.r none.Pre none.Post
+none-determined κs a h x y ws vs p q = (same p q, refl)
 
--- What was refused with a number, and what is said by a reply.
-refused-by : Checked → Replaced
-refused-by Sound = replaced.Given Singular
-refused-by (Refused r) = replaced.Refused r
+pub top-place-determined : Determined top-place-kinds.ps top-place-kinds.r top-place.Pre top-place.Post
+top-place-determined κs a h x y ws vs p q = (same p q, refl)
 
-said-by : (bump eta-count : ℕ) → Answer → Replaced
-said-by b n (REFUSED k) = refused-by (reply-of k)
-said-by b n SINGULAR = replaced.Given Singular
-said-by b n PERMUTED = replaced.Given Permuted
-said-by b n ELIMINATION = replaced.Given (Elimination b n)
-
-replied-by : Reply → Replaced
-replied-by r = said-by (r .bump) (r .eta-count) (r .answer)
-
-replied-back : (r : Replaced) → replied-by (reply r) ≡ r
-unfolding replied-by said-by refused-by
-replied-back (replaced.Refused r) = ap refused-by (reply-back (Refused r))
-replied-back (replaced.Given Singular) = refl
-replied-back (replaced.Given Permuted) = refl
-replied-back (replaced.Given (Elimination b n)) = refl
-
--- A call has one right outcome.
-pub outcome-one : (a : Call) (o o′ : Outcome) → Replaces a o → Replaces a o′ → o ≡ o′
-outcome-one a =
-    unless-one (λ p.
-    unless-one (λ q.
-    unless-one (λ f.
-    unless-one (λ s.
-    unless-one (λ t.
-    unless-one (λ c.
-    unless-one (λ n.
-    unless-one (λ w o o′ x y.
-    let j = call-judged {a = a} (record { sound = record { sized = p; long = q .0; formed = f; agree = s; order = t }; column-below = c; new-rise = n }) in
-    x .2 ∙ ap (after a) (judged-unique (asked a) j (x .0) (y .0) (x .1) (y .1)) ∙ sym (y .2)))))))))
-
-pub replace-determined : (a : Call) (r r′ : Replaced) (l l′ : Lists) (e e′ : List ℕ) → Replaces a (outcome (reply r) l e) → Replaces a (outcome (reply r′) l′ e′)
-    → (r ≡ r′) × (l ≡ l′) × (e ≡ e′)
-replace-determined a r r′ l l′ e e′ f f′ =
-    let o = outcome-one a (outcome (reply r) l e) (outcome (reply r′) l′ e′) f f′ in
-    (sym (replied-back r) ∙ ap (λ (x : Outcome). replied-by (x .reply)) o ∙ replied-back r′, ap (λ (x : Outcome). x .lists) o, ap (λ (x : Outcome). x .eta) o)
+-- The places of the numbers below m are told; what the scratch list holds past them is not.
+pub place-all-determined : (m : ℕ) (f : ℕ → ℕ) (l l′ : List ℕ) → Placed m f l → Placed m f l′ → (x : ℕ) → x < m → at l x ≡ at l′ x
+place-all-determined m f l l′ p q x h = same (p .stand x h) (q .stand x h)

@@ -1,5 +1,5 @@
--- A register held in lent lists with room for it reads back as what is held, and is sound where its order is.
--- Rests on Readback.antt and `pattern`.
+-- A register held in lent lists with room for it reads back as what is held, and is sound where its order is. Rests on
+-- specs/Lent.antt, specs/Takes.antt, `pattern` and `listing`.
 use mathlib.Core.List.{List, []}
 use mathlib.Core.Path.{_≡_, refl, sym, subst, subst₂}
 use Prim.Native.Nat.{ℕ, _≤_, _<_}
@@ -13,12 +13,13 @@ use Rattle.pattern.specs.Turned.{turned, Same-entries}
 use Rattle.pattern.proofs.Pairing.{sound-same}
 use Rattle.pattern.proofs.Tallies.{turned-total}
 use Rattle.pattern.proofs.Turning.{Columns, turned-columns, turned-same}
-use Rattle.register.specs.Held.{Held, over, Takes, holding}
-use Rattle.register.specs.Lent.{Lists, columns, rows, Sized, Sound-lists}
-use Rattle.register.specs.Limits.{max-size, max-total}
-use Rattle.register.specs.Listing.{parts, Good}
-use Rattle.register.proofs.Holding.{over-new, over-length}
-use Rattle.register.proofs.Readback.{held-parts, held-good}
+use Rattle.listing.specs.Held.{Held, over}
+use Rattle.listing.specs.Limits.{Sized, max-size, max-total}
+use Rattle.listing.specs.Listing.{parts, Good}
+use Rattle.listing.proofs.Holding.{over-new, over-length}
+use Rattle.listing.proofs.Readback.{held-parts, held-good}
+use Rattle.register.specs.Takes.{Takes, holding}
+use Rattle.register.specs.Lent.{Lists, columns, rows, Sound-lists}
 
 -- The listing of a pattern written over lists with room for it reads back as the pattern, and is a good listing.
 module _ {m : ℕ} {Q : List (List ℕ)} (C : Columns m Q) (small : m ≤ max-size) (few : start-of Q m ≤ max-total) (starts entries : List ℕ)

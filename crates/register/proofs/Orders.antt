@@ -22,7 +22,7 @@ use Rattle.pattern.proofs.Rises.{rising-below}
 use Rattle.pattern.proofs.Search.{last-or}
 use Rattle.pattern.proofs.Tests.{has-among}
 use Rattle.pattern.proofs.Turning.{Columns, row-below}
-use Rattle.register.specs.Limits.{max-size}
+use Rattle.listing.specs.Limits.{max-size}
 use Rattle.register.specs.Order.{Placed, Topped}
 
 -- ---- Entering the places

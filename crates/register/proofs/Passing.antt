@@ -1,5 +1,5 @@
--- A walk through the columns that reads a row listing: one column, and what the cursors then have passed.
--- Rests on specs/Walk.antt, Between.antt and Listings.antt.
+-- A walk through the columns that reads a row listing: one column, and what the cursors then have passed. Rests on `pattern` and
+-- `listing`.
 use mathlib.Core.List.{List, [], _∷_, _++_}
 use mathlib.Core.Logic.{_⊎_, inl, inr, ⊎-elim}
 use mathlib.Core.Path.{_≡_, refl, sym, ap, ap₂, _∙_, subst}
@@ -19,11 +19,11 @@ use Rattle.pattern.proofs.Numbers.{numbers-more, numbers-skip, numbers-few}
 use Rattle.pattern.proofs.Rises.{rising-below, rising-less}
 use Rattle.pattern.proofs.Tests.{T-dec, T-true, T-false, has-append, has-left, has-right, has-cases, has-here, has-among, among-has}
 use Rattle.pattern.proofs.Turning.{Columns, Begins, met, met-all, met-begins}
-use Rattle.register.specs.Limits.{max-size, max-total}
-use Rattle.register.specs.Listing.{between, Room, Starts}
-use Rattle.register.specs.Walk.{Cursors, All-next, Past, Rows-turned}
-use Rattle.register.proofs.Between.{between-length, between-at, between-none, between-more}
-use Rattle.register.proofs.Listings.{part-within, starts-rise}
+use Rattle.listing.specs.Limits.{max-size, max-total}
+use Rattle.listing.specs.Listing.{between, Room, Starts}
+use Rattle.listing.specs.Walk.{Cursors, All-next, Past, Rows-turned}
+use Rattle.listing.proofs.Between.{between-length, between-at, between-none, between-more}
+use Rattle.listing.proofs.Listings.{part-within, starts-rise}
 
 -- ---- The rows of one column, which is `j`
 

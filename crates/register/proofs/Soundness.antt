@@ -1,5 +1,5 @@
--- A sound register in lent lists: no check refuses it, it is a sound register of one pattern, and its row listing is that
--- pattern turned. Rests on Listings.antt, Holding.antt and `pattern`.
+-- A sound register in lent lists: no check refuses it, it is a sound register of one pattern, and its row listing is that pattern
+-- turned. Rests on specs/Checks.antt, specs/Lent.antt, `pattern` and `listing`.
 use mathlib.Core.Logic.{_≢_}
 use mathlib.Core.Path.{_≡_, refl, sym, _∙_}
 use Prim.Native.Nat.{ℕ, _≤_, _<_}
@@ -16,10 +16,10 @@ use Rattle.pattern.proofs.Pairing.{sound-same}
 use Rattle.pattern.proofs.Rungs.{unless-past, unless-held}
 use Rattle.pattern.proofs.Tests.{has-among}
 use Rattle.pattern.proofs.Turning.{Columns, row-below, turned-only}
+use Rattle.listing.specs.Listing.{Good}
+use Rattle.listing.proofs.Listings.{good-columns}
 use Rattle.register.specs.Checks.{Checks, First-fault}
 use Rattle.register.specs.Lent.{Lists, columns, rows, Sound-lists}
-use Rattle.register.specs.Listing.{Good}
-use Rattle.register.proofs.Listings.{good-columns}
 
 -- ---- The checks 1 to 5 of any call
 

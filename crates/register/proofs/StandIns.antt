@@ -12,11 +12,11 @@ use Rattle.pattern.specs.Series.{tally, numbers}
 use Rattle.pattern.specs.Rising.{Rising}
 use Rattle.pattern.specs.Turned.{turned}
 use Rattle.pattern.proofs.Tests.{has-cases}
+use Rattle.listing.specs.Held.{Held}
+use Rattle.listing.specs.Listing.{part, Listing}
+use Rattle.listing.specs.Look.{Looked}
 use Rattle.register.specs.Checks.{First-fault}
-use Rattle.register.specs.Held.{Held}
 use Rattle.register.specs.Lent.{Lists, lists, Fresh, Sound-lists}
-use Rattle.register.specs.Listing.{part, Listing}
-use Rattle.register.specs.Look.{Looked}
 use Rattle.register.specs.Start.{Started, started, Start-sound, start-lists, Starts-with}
 use Rattle.register.proofs.Determined.{fault-one, started-one, look-determined}
 use Rattle.register.proofs.Soundness.{no-fault}

@@ -4,17 +4,17 @@ use mathlib.Core.Logic.{_≢_}
 use mathlib.Core.Path.{_≡_, sym, ap}
 use Prim.Native.Nat.{ℕ, _≤_}
 use native.Mathlib.Omega.{arith}
+use mathlib.Core.List.{List}
 use Rattle.pattern.specs.Ladder.{fails, holds}
 use Rattle.pattern.specs.Order.{Sound}
 use Rattle.pattern.specs.Pattern.{Entry}
 use Rattle.pattern.specs.Places.{at}
 use Rattle.pattern.proofs.Pairing.{sound-same}
 use Rattle.pattern.proofs.Rungs.{unless-map}
-use Rattle.register.specs.Lent.{Lists, columns, Sized, Fresh}
-use Rattle.register.specs.Limits.{max-size}
-use Rattle.register.specs.Listing.{Good, Listing}
+use Rattle.listing.specs.Limits.{Sized, max-size}
+use Rattle.listing.specs.Listing.{Good, Listing}
+use Rattle.register.specs.Lent.{Lists, columns, Fresh}
 use Rattle.register.specs.Start.{started, Start-takes, Start-sound, start-lists, Start-fault, Starts-with}
-use mathlib.Core.List.{List}
 
 module _ (m : ℕ) (l : Lists) where
   -- A start that has a fault is refused by its number.

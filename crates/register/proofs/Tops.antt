@@ -1,4 +1,4 @@
--- What the list of the columns' greatest places says of an order. Rests on Listings.antt and Orders.antt.
+-- What the list of the columns' greatest places says of an order. Rests on Orders.antt and `listing`.
 use mathlib.Core.List.{List}
 use mathlib.Core.Path.{_≡_, sym, ap, _∙_}
 use Prim.Native.Nat.{ℕ, _+_, _-_, _<_}
@@ -7,10 +7,10 @@ use lib.ListN.{length}
 use Rattle.pattern.specs.Order.{Sound}
 use Rattle.pattern.specs.Pattern.{column, Entry}
 use Rattle.pattern.specs.Places.{at}
-use Rattle.register.specs.Listing.{parts, Good}
+use Rattle.listing.specs.Listing.{parts, Good}
+use Rattle.listing.proofs.Between.{between-length}
+use Rattle.listing.proofs.Listings.{part-is, good-within, good-columns}
 use Rattle.register.specs.Order.{Placed, Tops, At-top}
-use Rattle.register.proofs.Between.{between-length}
-use Rattle.register.proofs.Listings.{part-is, good-within, good-columns}
 use Rattle.register.proofs.Orders.{topped-sound, sound-topped}
 
 -- A column has as many rows as its starts say.

@@ -1,5 +1,5 @@
--- A register in lent lists, perhaps longer than needed: what is read off them, and when it is sound.
--- Rests on Listing.antt and `pattern`.
+-- A register in lent lists, perhaps longer than needed: what is read off them, and when it is sound. Rests on `pattern` and
+-- `listing`.
 use mathlib.Core.List.{List}
 use mathlib.Core.Path.{_≡_}
 use Prim.Native.Nat.{ℕ, _≤_, _<_}
@@ -8,8 +8,8 @@ use Rattle.pattern.specs.Order.{Sound}
 use Rattle.pattern.specs.Pattern.{Entry}
 use Rattle.pattern.specs.Places.{at}
 use Rattle.pattern.specs.Turned.{Same-entries}
-use Rattle.register.specs.Limits.{max-size}
-use Rattle.register.specs.Listing.{parts, Room, Listing}
+use Rattle.listing.specs.Limits.{max-size, Sized}
+use Rattle.listing.specs.Listing.{parts, Room, Listing}
 
 -- The six lent lists: the starts and rows of the column listing, the starts and columns of the row listing, and the order's
 -- rows and columns.
@@ -30,10 +30,6 @@ lists cs cr rs rc or oc =
 pub record Fresh (order : List ℕ) : Type 0 where
   pub long : length order ≡ max-size
   pub own : (t : ℕ) → t < max-size → at order t ≡ t
-
--- The size is 1 to 1,000.
-abbrev pub Sized : ℕ → Type 0
-Sized m = (1 ≤ m) × (m ≤ max-size)
 
 module _ (m : ℕ) (l : Lists) where
   -- The rows of each column, and the columns of each row.

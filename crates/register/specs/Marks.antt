@@ -1,9 +1,9 @@
--- Marks, which are kept as a list of flags. Rests on Limits.antt.
+-- Marks, which are kept as a list of flags. Rests on `listing`.
 use mathlib.Core.Bool.{Bool, false}
 use mathlib.Core.List.{List}
 use Prim.Native.Nat.{ℕ}
 use lib.ListN.{getD, replicate}
-use Rattle.register.specs.Limits.{max-mark}
+use Rattle.listing.specs.Limits.{max-mark}
 use Rattle.register.specs.declared.marks.Marks.{Marks}
 
 -- Whether flag `i` of a list is set.

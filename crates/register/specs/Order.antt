@@ -1,5 +1,5 @@
--- The places of an order's rows and columns in scratch lists, for the contracts of the steps of `order`. Rests on Limits.antt and
--- `pattern`.
+-- The places of an order's rows and columns in scratch lists, for the contracts of the steps of `order`. Rests on `pattern` and
+-- `listing`.
 use mathlib.Core.List.{List}
 use mathlib.Core.Path.{_≡_}
 use Prim.Native.Nat.{ℕ, _+_, _<_}
@@ -7,7 +7,7 @@ use lib.ListN.{length}
 use Rattle.pattern.specs.Pattern.{column}
 use Rattle.pattern.specs.Places.{at, Once, place}
 use Rattle.pattern.specs.Series.{greatest}
-use Rattle.register.specs.Limits.{max-size}
+use Rattle.listing.specs.Limits.{max-size}
 
 -- `f 0 .. f (m - 1)` are each number below `m` once, and the list has the place of each.
 pub record Placed (m : ℕ) (f : ℕ → ℕ) (places : List ℕ) : Type 0 where

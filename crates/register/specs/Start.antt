@@ -1,5 +1,5 @@
--- A register started from its column listing, in the order that pairs row t with column t: what comes back, for every call.
--- Rests on Lent.antt, Held.antt and `pattern`.
+-- A register started from its column listing, in the order that pairs row t with column t: what comes back, for every call. Rests
+-- on Lent.antt, `pattern` and `listing`.
 use mathlib.Core.List.{List}
 use mathlib.Core.Path.{_≡_}
 use Prim.Native.Nat.{ℕ}
@@ -10,9 +10,11 @@ use Rattle.pattern.specs.Pattern.{Entry}
 use Rattle.pattern.specs.Places.{at}
 use Rattle.pattern.specs.Series.{each}
 use Rattle.pattern.specs.Turned.{turned}
-use Rattle.register.specs.Held.{over, Takes}
-use Rattle.register.specs.Lent.{Lists, lists, Sized, columns}
-use Rattle.register.specs.Listing.{Listing}
+use Rattle.listing.specs.Held.{over}
+use Rattle.listing.specs.Limits.{Sized}
+use Rattle.listing.specs.Listing.{Listing}
+use Rattle.register.specs.Takes.{Takes}
+use Rattle.register.specs.Lent.{Lists, lists, columns}
 
 -- The number of the refusal, or 0, and the lent lists as they are then.
 pub record Started : Type 0 where

@@ -1,32 +1,23 @@
 // A register of one square sparse pattern, kept in six lists that the caller lends.
-mod arrange;
-mod check;
-mod join;
-mod judge;
-mod listing;
-mod look;
-mod marks;
-mod moves;
+pub mod check;
+pub mod marks;
 mod order;
-mod peel;
-mod reach;
-mod replace;
+pub mod places;
 pub mod room;
 mod same;
 mod start;
-mod store;
-pub mod turn;
-mod wide;
 
-use crate::look::Span;
 use crate::marks::Marks;
+use listing::MAX_SIZE;
+use listing::MAX_TOTAL;
+use listing::look::Span;
+use listing::look::sight;
 ghost use mathlib.Core.Path.{_≡_};
-ghost use Rattle.register.specs.Checks.{First-fault, call};
+ghost use Rattle.listing.specs.Look.{Spans, Looked};
+ghost use Rattle.register.specs.Checks.{First-fault};
 ghost use Rattle.register.specs.Lent.{lists, Fresh};
-ghost use Rattle.register.specs.Look.{Spans, Looked};
 ghost use Rattle.register.specs.Marks.{unmarked};
-ghost use Rattle.register.specs.Replace.{outcome, Replaces};
-ghost use Rattle.register.specs.Reply.{number, fault, reply};
+ghost use Rattle.register.specs.Reply.{number, fault};
 ghost use Rattle.register.specs.Start.{started, Starts-with};
 
 // What a call refuses, in the order of the build paper's numbers. The last four are the sheet reader's alone.
@@ -49,19 +40,6 @@ pub enum Refusal {
 pub enum Checked {
     Sound,
     Refused(Refusal),
-}
-
-// The verdict on a replacement; ELIMINATION with its bump and the number of its eta rows.
-pub enum Judgment {
-    Singular,
-    Permuted,
-    Elimination { bump: usize, eta_count: usize },
-}
-
-// What a replacement replies.
-pub enum Replaced {
-    Refused(Refusal),
-    Given(Judgment),
 }
 
 impl Refusal {
@@ -92,9 +70,9 @@ pub struct Register {
 }
 
 impl Register {
-    pub const MAX_SIZE: usize = 1000;
+    pub const MAX_SIZE: usize = MAX_SIZE;
 
-    pub const MAX_TOTAL: usize = 12000;
+    pub const MAX_TOTAL: usize = MAX_TOTAL;
 
     // No column is marked.
     pub fn empty_marks() -> Marks
@@ -181,7 +159,7 @@ impl Register {
     pub fn span(self, col_starts: &[u16], col_rows: &[u16], column: usize) -> Span
         ensures { λ r. ⌜ Spans (self .size) column (now («col_starts» .entry)) (now («col_rows» .entry)) (r .from, r .to) ⌝ }
     {
-        look::sight(self.size, col_starts, col_rows, column)
+        sight(self.size, col_starts, col_rows, column)
     }
 
     // The rows of one column, as a part of the caller's own list.
@@ -192,42 +170,5 @@ impl Register {
         let from = span.from;
         let to = span.to;
         &col_rows[from..to]
-    }
-
-    // Replaces one column by the new rows, after the build paper's checks 1 to 8. The eta rows go to the head of the eta list.
-    pub fn replace(
-        self,
-        col_starts: &mut [u16],
-        col_rows: &mut [u16],
-        row_starts: &mut [u16],
-        row_cols: &mut [u16],
-        order_rows: &mut [u16],
-        order_cols: &mut [u16],
-        column: usize,
-        new_rows: &[u16],
-        eta: &mut [u16],
-    ) -> Replaced
-        ensures { λ r. ⌜ Replaces
-            (call (self .size)
-            (lists (now («col_starts» .entry)) (now («col_rows» .entry)) (now («row_starts» .entry)) (now («row_cols» .entry))
-            (now («order_rows» .entry)) (now («order_cols» .entry)))
-            column (now («new_rows» .entry)) (now (eta .entry)))
-            (outcome (reply r)
-            (lists (now («col_starts» .exit)) (now («col_rows» .exit)) (now («row_starts» .exit)) (now («row_cols» .exit))
-            (now («order_rows» .exit)) (now («order_cols» .exit)))
-            (now (eta .exit))) ⌝ }
-    {
-        replace::replace(
-            self.size,
-            col_starts,
-            col_rows,
-            row_starts,
-            row_cols,
-            order_rows,
-            order_cols,
-            column,
-            new_rows,
-            eta,
-        )
     }
 }

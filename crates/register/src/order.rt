@@ -1,22 +1,20 @@
 // Whether an order is sound for a column listing (cs, cr: starts and rows): the places of its rows are entered in a scratch
 // list, the greatest place of each column's rows in another, and one pass over the columns in their order sees to the rest.
 use crate::Register;
-use crate::listing::part;
-use crate::wide::wide;
+use crate::places::NOWHERE;
+use crate::places::top_place;
+use listing::listing::part;
+use listing::wide::wide;
 ghost use mathlib.Core.Path.{_≡_};
 ghost use Prim.Native.Nat.{ℕ, _≤_, _<_};
 ghost use lib.ListN.{length};
 ghost use Rattle.pattern.specs.Order.{Sound};
 ghost use Rattle.pattern.specs.Pattern.{Entry};
 ghost use Rattle.pattern.specs.Places.{at, Once};
-ghost use Rattle.pattern.specs.Series.{greatest};
-ghost use Rattle.register.specs.Limits.{max-size};
-ghost use Rattle.register.specs.Says.{Told, Says};
-ghost use Rattle.register.specs.Listing.{parts, Good};
+ghost use Rattle.listing.specs.Limits.{max-size};
+ghost use Rattle.listing.specs.Says.{Told, Says};
+ghost use Rattle.listing.specs.Listing.{parts, Good};
 ghost use Rattle.register.specs.Order.{Placed, Tops, At-top};
-
-// What stands in the scratch list for a number that has no place.
-pub const NOWHERE: u16 = 1000;
 
 // Enters the place of each number. False where one is m or more, or has a place already.
 pub fn enter(m: usize, numbers: &[u16], places: &mut [u16; Register::MAX_SIZE]) -> bool
@@ -49,35 +47,6 @@ pub fn clear(places: &mut [u16; Register::MAX_SIZE])
         places[x] = NOWHERE;
         x += 1;
     }
-}
-
-// The place of each number, where each stands once.
-pub fn place_all(m: usize, numbers: &[u16], places: &mut [u16; Register::MAX_SIZE])
-    requires { ⌜ (m ≤ max-size) × (m ≤ length (now numbers)) × Once (at (now numbers)) m m × (length (now places) ≡ max-size) ⌝ }
-    ensures { λ _. ⌜ Placed m (at (now (numbers .entry))) (now (places .exit)) ⌝ }
-{
-    let mut t = 0;
-    while t < m {
-        places[wide(numbers[t])] = t as u16;
-        t += 1;
-    }
-}
-
-// The greatest place of a row.
-pub fn top_place(places: &[u16; Register::MAX_SIZE], rows: &[u16]) -> usize
-    requires { ⌜ ((k : ℕ) → k < length (now rows) → at (now rows) k < max-size) ⌝ }
-    ensures { λ r. ⌜ r ≡ greatest (at (now (places .entry))) (now (rows .entry)) ⌝ }
-{
-    let mut top = 0;
-    let mut k = 0;
-    while k < rows.len() {
-        let p = wide(places[wide(rows[k])]);
-        if top < p {
-            top = p;
-        }
-        k += 1;
-    }
-    top
 }
 
 // The greatest place of a row of each column.

@@ -1,7 +1,7 @@
 // Whether lent lists are long enough.
-ghost use Rattle.register.specs.Held.{Takes};
+ghost use Rattle.listing.specs.Says.{Says};
+ghost use Rattle.register.specs.Takes.{Takes};
 ghost use Rattle.register.specs.Lent.{lists};
-ghost use Rattle.register.specs.Says.{Says};
 
 // Whether the lists have room for a register of this size with so many entries.
 pub fn takes(

@@ -3,8 +3,8 @@
 // then lists what its columns are, which rises, so that the row listing is not gone over by itself. On the way the
 // greatest place of each column's rows is taken, for the order.
 use crate::Register;
-use crate::listing::part;
-use crate::wide::wide;
+use listing::listing::part;
+use listing::wide::wide;
 ghost use mathlib.Core.Path.{_≡_};
 ghost use Prim.Native.Nat.{ℕ, _+_, _≤_, _<_};
 ghost use lib.Dec.{T};
@@ -13,11 +13,11 @@ ghost use Rattle.pattern.specs.Pattern.{has};
 ghost use Rattle.pattern.specs.Places.{at};
 ghost use Rattle.pattern.specs.Rising.{Rising};
 ghost use Rattle.pattern.specs.Series.{greatest};
-ghost use Rattle.register.specs.Limits.{max-size, max-total};
-ghost use Rattle.register.specs.Says.{Told, Says};
-ghost use Rattle.register.specs.Listing.{parts, Room, Starts, Good};
+ghost use Rattle.listing.specs.Limits.{max-size, max-total};
+ghost use Rattle.listing.specs.Says.{Told, Says};
+ghost use Rattle.listing.specs.Listing.{parts, Room, Starts, Good};
+ghost use Rattle.listing.specs.Walk.{All-next, Past, Rows-turned};
 ghost use Rattle.register.specs.Order.{Tops};
-ghost use Rattle.register.specs.Walk.{All-next, Past, Rows-turned};
 
 // Each row's cursor at the row's start.
 fn set_out(m: usize, starts: &[u16], next: &mut [u16; Register::MAX_SIZE])

@@ -3,17 +3,17 @@
 use crate::Checked;
 use crate::Refusal;
 use crate::Register;
-use crate::listing::formed;
 use crate::order::sound;
 use crate::room::takes;
-use crate::turn::turn;
-use crate::wide::wide;
+use listing::listing::formed;
+use listing::turn::turn;
+use listing::wide::wide;
 ghost use mathlib.Core.Path.{_≡_};
 ghost use Prim.Native.Nat.{_≤_};
 ghost use lib.ListN.{length};
-ghost use Rattle.register.specs.Held.{over};
+ghost use Rattle.listing.specs.Held.{over};
+ghost use Rattle.listing.specs.Limits.{max-size};
 ghost use Rattle.register.specs.Lent.{lists};
-ghost use Rattle.register.specs.Limits.{max-size};
 ghost use Rattle.register.specs.Reply.{fault};
 ghost use Rattle.register.specs.Start.{started, own-places, Start-fault, Starts-with};
 

@@ -1,15 +1,16 @@
--- For programs: no call takes more bytes than it is given, or writes more than the output list has places. Rests on specs/Feed.antt
--- and Showing.antt.
+-- For programs: no call takes more bytes than it is given, or writes more than the output list has places. Rests on
+-- specs/Feed.antt, `replies` and `turns`.
 use mathlib.Core.List.{List}
 use mathlib.Core.Path.{ap}
 use Prim.Native.Nat.{ℕ, _≤_}
 use native.Mathlib.Omega.{arith}
 use lib.ListN.{length}
 use Rattle.pattern.specs.Ladder.{fails, holds}
+use Rattle.replies.proofs.Showing.{over-new-long}
+use Rattle.turns.specs.Turns.{Run}
+use Rattle.turns.specs.declared.State.{State}
 use Rattle.script.specs.Feed.{Fed-out, Feeds, Finishes}
-use Rattle.script.specs.Tryout.{Run, closing}
-use Rattle.script.specs.declared.State.{State}
-use Rattle.script.proofs.Showing.{over-new-long}
+use Rattle.script.specs.Tryout.{closing}
 
 module _ {r : Run} {chunk out : List ℕ} {o : Fed-out} where
   pub feeds-taken : Feeds r chunk out o → o .taken ≤ length chunk

@@ -1,19 +1,20 @@
--- What a line makes of a run, by its turn; and what a byte makes of one that has not ended: it ends a line, finds the line full, or
--- joins it. Rests on Makings.antt.
+-- What a line makes of a run, by its turn; and what a byte makes of one that has not ended: it ends a line, finds the line full,
+-- or joins it. Rests on specs/Tryout.antt, `text`, `replies` and `turns`.
 use mathlib.Core.Bool.{false}
 use mathlib.Core.List.{List, []}
 use mathlib.Core.Path.{_≡_, refl, sym, subst}
 use Prim.Native.Nat.{ℕ}
 use borrow.Author.Tests.{eq-eqb, ne-eqb}
-use Rattle.sheet.specs.Puts.{Puts}
-use Rattle.script.specs.Replies.{bad-line}
-use Rattle.script.specs.Steps.{Makes}
-use Rattle.script.specs.Text.{LF, max-line}
-use Rattle.script.specs.Tryout.{Run, state, run, has-ended, Line-does, longer, Byte}
-use Rattle.script.specs.declared.State.{State}
-use Rattle.script.specs.declared.Turn.{Turn}
-use Rattle.script.specs.declared.Turn.the-variants as turn
-use Rattle.script.proofs.Makings.{puts-none, same-after}
+use Rattle.text.specs.Puts.{Puts}
+use Rattle.text.specs.Text.{LF, max-line}
+use Rattle.replies.specs.Replies.{bad-line}
+use Rattle.turns.specs.Steps.{Makes}
+use Rattle.turns.specs.Turns.{Run, state, run, Line-does}
+use Rattle.turns.specs.declared.State.{State}
+use Rattle.turns.specs.declared.Turn.{Turn}
+use Rattle.turns.specs.declared.Turn.the-variants as turn
+use Rattle.turns.proofs.Makings.{puts-none, same-after}
+use Rattle.script.specs.Tryout.{has-ended, longer, Byte}
 
 -- The turn decides what a line does.
 pub makes-by-turn : {t t′ : Turn} (r : Run) {r′ : Run} {place next : ℕ} {out out′ : List ℕ} → t ≡ t′ → Makes (Line-does t′ r) place out r′ next out′

@@ -4,8 +4,9 @@ use mathlib.Core.List.{List, [], _++_, append-nil}
 use mathlib.Core.Path.{_≡_, refl, sym, ap, _∙_}
 use Prim.Native.Nat.{ℕ}
 use lib.ListN.{take}
+use Rattle.turns.specs.Turns.{Lent, Run, run, begun, After, after}
 use Rattle.script.specs.Feed.{Takes-bytes}
-use Rattle.script.specs.Tryout.{Lent, Run, run, begun, After, after, has-ended, Fed, closing, Tryout}
+use Rattle.script.specs.Tryout.{has-ended, Fed, closing, Tryout}
 use Rattle.script.proofs.Feeding.{fed-none, fed-both, fed-one, fed-ended}
 
 -- Calls one after another, each with any chunk and any room: the bytes that were taken, and what was printed.

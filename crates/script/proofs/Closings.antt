@@ -1,4 +1,4 @@
--- What the end of the input prints. Rests on specs/Feed.antt and `sheet`.
+-- What the end of the input prints. Rests on specs/Feed.antt, `listing`, `text`, `replies` and `turns`.
 use mathlib.Core.Bool.{cond, not}
 use mathlib.Core.List.{List, []}
 use mathlib.Core.Path.{_≡_, refl, sym, ap, ap₂, _∙_}
@@ -8,14 +8,13 @@ use lib.Dec.{eqb}
 use lib.ListN.{length}
 use borrow.Author.Tests.{ne-eqb}
 use Rattle.pattern.specs.Ladder.{holds}
-use Rattle.register.specs.Held.{over}
-use Rattle.sheet.specs.Puts.{Puts}
+use Rattle.listing.specs.Held.{over}
+use Rattle.text.specs.Puts.{Puts}
+use Rattle.replies.specs.Replies.{bad-line, max-reply}
+use Rattle.turns.specs.declared.State.{State}
+use Rattle.turns.specs.declared.Turn.the-variants as turn
 use Rattle.script.specs.Feed.{Finishes}
-use Rattle.script.specs.Replies.{bad-line}
-use Rattle.script.specs.Text.{max-reply}
 use Rattle.script.specs.Tryout.{closing-at, closing}
-use Rattle.script.specs.declared.State.{State}
-use Rattle.script.specs.declared.Turn.the-variants as turn
 
 -- Where 'put' is wanted, a line that has been begun is bad.
 pub closing-put : (m k n : ℕ) → closing-at (turn.Put m) k n ≡ cond (not (eqb n 0)) (bad-line k) []

@@ -7,13 +7,14 @@ use native.Mathlib.Decide.{decLt}
 use native.Mathlib.Omega.{arith}
 use lib.ListN.{length, take}
 use Rattle.pattern.proofs.Rungs.{unless-one}
-use Rattle.register.specs.Held.{over}
+use Rattle.listing.specs.Held.{over}
+use Rattle.turns.specs.Turns.{Lent, Run, run, begun, After}
+use Rattle.turns.specs.declared.State.{State}
+use Rattle.turns.proofs.OneLine.{equal-one}
 use Rattle.script.specs.Feed.{Takes-bytes, Fed-out, fed-out, Feeds, Finishes}
-use Rattle.script.specs.Tryout.{Lent, Run, run, begun, After, has-ended, Fed}
+use Rattle.script.specs.Tryout.{has-ended, Fed}
 use Rattle.script.specs.declared.Fed as declared
-use Rattle.script.specs.declared.State.{State}
 use Rattle.script.proofs.Feeding.{fed-one}
-use Rattle.script.proofs.OneLine.{equal-one}
 
 pub begin-determined : (s s′ : State) → s ≡ begun → s′ ≡ begun → s ≡ s′
 begin-determined = equal-one

@@ -1,12 +1,14 @@
--- Bytes fed one after another: one more, some and others behind them, and that what comes of them is one thing. Rests on OneLine.antt.
+-- Bytes fed one after another: one more, some and others behind them, and that what comes of them is one thing. Rests on OneByte.antt.
 use mathlib.Core.Bool.{Bool, true}
 use mathlib.Core.List.{List, [], _∷_, _++_, append-nil, append-assoc}
 use mathlib.Core.Path.{_≡_, refl, sym, ap, ap₂, _∙_, subst}
 use Prim.Native.Nat.{ℕ}
 use lib.Dec.{eqb}
-use Rattle.script.specs.Text.{LF, max-line}
-use Rattle.script.specs.Tryout.{Run, After, after, has-ended, Byte-does, Byte, Fed}
-use Rattle.script.proofs.OneLine.{One, byte-one}
+use Rattle.text.specs.Text.{LF, max-line}
+use Rattle.turns.specs.Turns.{Run, After, after}
+use Rattle.turns.proofs.OneLine.{One}
+use Rattle.script.specs.Tryout.{has-ended, Byte-does, Byte, Fed}
+use Rattle.script.proofs.OneByte.{byte-one}
 
 pub fed-none : (r : Run) → Fed r [] (after r [])
 unfolding Fed

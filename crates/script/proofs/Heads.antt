@@ -1,5 +1,5 @@
--- The beginning of a list, up to a place: what lists with the same one have in common, and what it is after a list was written over.
--- Rests on `register`.
+-- The beginning of a list, up to a place: what lists with the same one have in common, and what it is after a list was written
+-- over. Rests on `pattern` and `listing`.
 use mathlib.Core.List.{List, [], _∷_, _++_}
 use mathlib.Core.Path.{_≡_, sym, ap, _∙_}
 use Prim.Native.Nat.{ℕ, _+_, _≤_, _<_}
@@ -7,8 +7,8 @@ use native.Mathlib.Omega.{arith}
 use lib.ListN.{length, take, drop, set, length-append}
 use lib.Seq.{getD-take, length-take-le, take-at}
 use Rattle.pattern.specs.Places.{at}
-use Rattle.register.specs.Held.{over, put}
-use Rattle.register.proofs.Puts.{put-none, put-front, put-is-over}
+use Rattle.listing.specs.Held.{over, put}
+use Rattle.listing.proofs.Puts.{put-none, put-front, put-is-over}
 
 -- Lists with the same beginning have the same number at each of its places.
 pub head-at : (n : ℕ) (k l : List ℕ) → take n k ≡ take n l → (i : ℕ) → i < n → at k i ≡ at l i

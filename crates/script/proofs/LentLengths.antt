@@ -2,8 +2,8 @@
 use mathlib.Core.Path.{_≡_, refl, _∙_}
 use native.Mathlib.Omega.{arith}
 use lib.ListN.{length}
+use Rattle.turns.specs.Turns.{Lent}
 use Rattle.script.specs.Feed.{Roomy}
-use Rattle.script.specs.Tryout.{Lent}
 
 pub record As-long (l l′ : Lent) : Type 0 where
   pub col-starts : length (l′ .lists .col-starts) ≡ length (l .lists .col-starts)

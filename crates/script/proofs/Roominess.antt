@@ -1,5 +1,5 @@
--- Lists in which every tryout has room keep it, whatever is written over them. Rests on specs/Feed.antt, Showing.antt,
--- `register` and `pattern`.
+-- Lists in which every tryout has room keep it, whatever is written over them. Rests on specs/Feed.antt, `pattern`, `listing`,
+-- `register`, `judge`, `replace`, `replies` and `turns`.
 use mathlib.Core.Bool.{Bool, true, false}
 use mathlib.Core.List.{List}
 use mathlib.Core.Path.{sym, subst}
@@ -11,15 +11,17 @@ use Rattle.pattern.specs.Places.{at}
 use Rattle.pattern.specs.Turned.{turned}
 use Rattle.pattern.specs.Verdict.{spiked-columns, cleared-columns, Verdict, Singular, Permuted, Elimination}
 use Rattle.pattern.proofs.Rungs.{unless-both}
-use Rattle.register.specs.Checks.{Call, Fits}
-use Rattle.register.specs.Held.{over, put, Takes, holding}
+use Rattle.listing.specs.Held.{over, put}
+use Rattle.listing.specs.Limits.{max-size, max-total}
+use Rattle.register.specs.Checks.{Fits}
+use Rattle.register.specs.Takes.{Takes, holding}
 use Rattle.register.specs.Lent.{Lists, lists, columns}
-use Rattle.register.specs.Limits.{max-size, max-total}
-use Rattle.register.specs.Replace.{Outcome, asked, refusal, after, Replaces}
 use Rattle.register.specs.Start.{Started, own-places, Starts-with}
+use Rattle.judge.specs.Call.{Call, asked}
+use Rattle.replace.specs.Replace.{Outcome, refusal, after, Replaces}
+use Rattle.replies.proofs.Showing.{over-long}
+use Rattle.turns.specs.Turns.{Lent, lent, with-column, with-numbers}
 use Rattle.script.specs.Feed.{Roomy}
-use Rattle.script.specs.Tryout.{Lent, lent, with-column, with-numbers}
-use Rattle.script.proofs.Showing.{over-long}
 
 -- A list that is written over does not get shorter.
 put-longer : (k : ℕ) (new old : List ℕ) → length old ≤ length (put k new old)

@@ -7,10 +7,11 @@ use Prim.Native.Nat.{ℕ, _+_, _≤_, _<_}
 use native.Mathlib.Omega.{arith}
 use lib.Dec.{eqb}
 use borrow.Author.Tests.{eqb-false}
+use Rattle.text.specs.Text.{LF, max-line}
+use Rattle.turns.specs.Turns.{Lent, Run, run, After}
+use Rattle.turns.specs.declared.State.{State}
 use Rattle.script.specs.Feed.{Turn-right}
-use Rattle.script.specs.Text.{LF, max-line}
-use Rattle.script.specs.Tryout.{Lent, Run, run, After, has-ended, longer, Byte-does, Byte}
-use Rattle.script.specs.declared.State.{State}
+use Rattle.script.specs.Tryout.{has-ended, longer, Byte-does, Byte}
 use Rattle.script.proofs.Heads.{set-head}
 use Rattle.script.proofs.Roominess.{roomy-byte}
 use Rattle.script.proofs.SameLines.{line-agree}

@@ -1,5 +1,5 @@
--- Lists that hold the same columns so far, beyond which they may differ: one column more, and all of them as a listing.
--- Rests on Heads.antt, Roominess.antt, `register` and `pattern`.
+-- Lists that hold the same columns so far, beyond which they may differ: one column more, and all of them as a listing. Rests on
+-- Heads.antt, Roominess.antt, `pattern`, `listing`, `register` and `turns`.
 use mathlib.Core.Bool.{true}
 use mathlib.Core.List.{List, _++_}
 use mathlib.Core.Path.{_≡_, refl, sym, ap, ap₂, _∙_}
@@ -9,14 +9,14 @@ use lib.ListN.{length, take, set}
 use lib.Seq.{getD-set-same, getD-set-other}
 use Rattle.pattern.specs.Places.{at}
 use Rattle.pattern.proofs.Each.{each-same}
-use Rattle.register.specs.Held.{put}
+use Rattle.listing.specs.Held.{put}
+use Rattle.listing.specs.Limits.{max-total}
+use Rattle.listing.specs.Listing.{between, part, Starts, Listing}
+use Rattle.listing.proofs.Between.{between-same}
+use Rattle.listing.proofs.Listings.{starts-rise}
+use Rattle.listing.proofs.Stores.{stored-more}
 use Rattle.register.specs.Lent.{Lists, columns}
-use Rattle.register.specs.Limits.{max-total}
-use Rattle.register.specs.Listing.{between, part, Starts, Listing}
-use Rattle.register.proofs.Between.{between-same}
-use Rattle.register.proofs.Listings.{starts-rise}
-use Rattle.register.proofs.Stores.{stored-more}
-use Rattle.script.specs.Tryout.{with-column}
+use Rattle.turns.specs.Turns.{with-column}
 use Rattle.script.proofs.Heads.{head-at, put-head}
 use Rattle.script.proofs.Roominess.{with-first}
 

@@ -1,5 +1,5 @@
--- A line makes of runs that stand alike runs that stand alike, and prints the same for both. Rests on SameRuns.antt, SameStarts.antt,
--- SameOutcomes.antt, Roominess.antt and Speaking.antt.
+-- A line makes of runs that stand alike runs that stand alike, and prints the same for both. Rests on SameRuns.antt,
+-- SameStarts.antt, SameOutcomes.antt, Roominess.antt, `listing`, `text`, `register`, `judge`, `replies` and `turns`.
 use mathlib.Core.Bool.{Bool, true, false, cond, false≢true}
 use mathlib.Core.List.{List, [], _∷_}
 use mathlib.Core.Path.{_≡_, refl, sym, ap, ap₂, subst}
@@ -9,24 +9,24 @@ use lib.Dec.{eqb, leb}
 use lib.ListN.{length}
 use borrow.Author.Tests.{eqb-true, leb-true}
 use Rattle.pattern.specs.Places.{at}
-use Rattle.register.specs.Checks.{call}
+use Rattle.listing.specs.Limits.{max-size, max-total}
+use Rattle.text.specs.Text.{Speaks}
+use Rattle.text.proofs.Speaking.{speaks-one}
 use Rattle.register.specs.Lent.{Lists}
-use Rattle.register.specs.Limits.{max-size, max-total}
 use Rattle.register.specs.Start.{Started}
+use Rattle.judge.specs.Call.{call}
+use Rattle.replies.specs.Replies.{start-refused}
+use Rattle.turns.specs.Turns.{Lent, Run, run, After, line-so-far, next-line, ends, In-turn, taken, other, Order-does, still-fits, with-column, with-numbers, started-run, Start-does, Col-ends, Col-does, Put-does, Line-does}
+use Rattle.turns.specs.declared.State.{State}
+use Rattle.turns.specs.declared.Turn.{Turn}
+use Rattle.turns.specs.declared.Turn.the-variants as turn
 use Rattle.script.specs.Feed.{Turn-right, Roomy}
-use Rattle.script.specs.Replies.{start-refused}
-use Rattle.script.specs.Text.{Speaks}
-use Rattle.script.specs.Tryout.{Lent, Run, run, After, line-so-far, next-line, ends, In-turn, taken, other, Order-does, still-fits, with-column, with-numbers, started-run, Start-does, Col-ends, Col-does, Put-does, Line-does}
-use Rattle.script.specs.declared.State.{State}
-use Rattle.script.specs.declared.Turn.{Turn}
-use Rattle.script.specs.declared.Turn.the-variants as turn
 use Rattle.script.proofs.Roominess.{Ample, roomy-first, takes-column, takes-started, outcome-room, roomy-numbers}
 use Rattle.script.proofs.SameColumns.{columns-none, columns-more}
 use Rattle.script.proofs.SameOutcomes.{outcomes-agree, reply-same}
 use Rattle.script.proofs.SameRegisters.{Registers-agree}
 use Rattle.script.proofs.SameRuns.{Fitting-agree, Turn-agree, Runs-agree, Afters-agree, so-agree, next-agree, ends-agree, bad-agree}
 use Rattle.script.proofs.SameStarts.{Starts-agree, starts-agree}
-use Rattle.script.proofs.Speaking.{speaks-one}
 use Rattle.script.proofs.TwoLadders.{unless-two}
 
 -- ---- One column more

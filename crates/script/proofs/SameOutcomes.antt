@@ -1,5 +1,5 @@
 -- A replacement in lists that hold the same sound register has the same reply, and leaves the same register. Rests on
--- SameRegisters.antt, TwoLadders.antt, `register` and `pattern`.
+-- SameRegisters.antt, TwoLadders.antt, `pattern`, `listing`, `text`, `register`, `judge`, `replace` and `replies`.
 use mathlib.Core.List.{List, [], _∷_, _++_}
 use mathlib.Core.Path.{_≡_, refl, sym, ap, ap₂, subst, subst₂, _∙_}
 use Prim.Native.Nat.{ℕ, _≤_, _<_}
@@ -12,17 +12,18 @@ use Rattle.pattern.proofs.Clearing.{spiked-columns-rise, cleared-columns-rise, 
 use Rattle.pattern.proofs.Rungs.{unless-held}
 use Rattle.pattern.proofs.Turning.{Columns}
 use Rattle.pattern.proofs.Verdicts.{judged-unique, elimination-sound}
-use Rattle.register.specs.Checks.{Call, call, new-total, New-fits}
-use Rattle.register.specs.Judge.{Judgeable}
+use Rattle.listing.specs.Limits.{max-size, max-total}
+use Rattle.text.specs.Text.{spaced}
 use Rattle.register.specs.Lent.{Lists}
-use Rattle.register.specs.Limits.{max-size, max-total}
-use Rattle.register.specs.Replace.{Outcome, asked, stored, refusal, after, Answered, Replaces}
-use Rattle.register.specs.Reply.{Reply}
-use Rattle.register.proofs.Calls.{call-columns, call-size, call-judged}
-use Rattle.register.proofs.Runs.{sound-after}
-use Rattle.register.proofs.Spikes.{spiked-total-is, spiked-fits, cleared-fits}
-use Rattle.script.specs.Replies.{answer-text, reply-line, put-reply}
-use Rattle.script.specs.Text.{put-word, spaced}
+use Rattle.judge.specs.Call.{Call, call, asked}
+use Rattle.judge.specs.Judge.{Judgeable}
+use Rattle.judge.proofs.Asked.{call-columns, call-size, call-judged}
+use Rattle.replace.specs.ReplaceChecks.{new-total, New-fits}
+use Rattle.replace.specs.Replace.{Outcome, stored, refusal, after, Answered, Replaces}
+use Rattle.replace.specs.Reply.{Reply}
+use Rattle.replace.proofs.Runs.{sound-after}
+use Rattle.replace.proofs.Spikes.{spiked-total-is, spiked-fits, cleared-fits}
+use Rattle.replies.specs.Replies.{answer-text, reply-line, put-reply, put-word}
 use Rattle.script.proofs.Heads.{over-same}
 use Rattle.script.proofs.Roominess.{Ample, takes-less, ample-fits}
 use Rattle.script.proofs.SameRegisters.{Holds-same, Registers-agree, holding-same, pairs-same}

@@ -1,17 +1,18 @@
--- Sound registers in two sixes of lists that hold the same, beyond which the lists may differ. Rests on Heads.antt, `register` and `pattern`.
+-- Sound registers in two sixes of lists that hold the same, beyond which the lists may differ. Rests on Heads.antt, `pattern`,
+-- `listing` and `register`.
 use mathlib.Core.List.{List}
 use mathlib.Core.Path.{_≡_, sym, ap₂, _∙_}
 use Prim.Native.Nat.{ℕ, _≤_}
 use lib.ListN.{length, take}
 use Rattle.pattern.specs.Flat.{start-of}
 use Rattle.pattern.specs.Places.{at}
+use Rattle.pattern.specs.Order.{pairs}
 use Rattle.pattern.proofs.Each.{each-same}
 use Rattle.pattern.proofs.Turning.{Columns}
-use Rattle.register.specs.Held.{Takes, holding}
-use Rattle.register.specs.Lent.{Lists, columns, Sized, Sound-lists}
-use Rattle.register.specs.Limits.{max-total}
+use Rattle.listing.specs.Limits.{Sized, max-total}
+use Rattle.register.specs.Takes.{Takes, holding}
+use Rattle.register.specs.Lent.{Lists, columns, Sound-lists}
 use Rattle.register.proofs.Holdings.{columns-back}
-use Rattle.sheet.specs.Sheet.{pairs}
 use Rattle.script.proofs.Heads.{head-at, over-same}
 
 -- The same columns, and the same order.

@@ -5,11 +5,11 @@ use mathlib.Core.List.{List}
 use mathlib.Core.Path.{_≡_, refl, sym, subst₂}
 use Prim.Native.Nat.{ℕ}
 use Rattle.register.specs.Lent.{Lists}
+use Rattle.turns.specs.Turns.{Lent, lent, Run, run, After, line-so-far, next-line, ends, bad}
+use Rattle.turns.specs.declared.State.{State}
+use Rattle.turns.specs.declared.Turn.{Turn}
+use Rattle.turns.specs.declared.Turn.the-variants as turn
 use Rattle.script.specs.Feed.{Roomy}
-use Rattle.script.specs.Tryout.{Lent, lent, Run, run, After, line-so-far, next-line, ends, bad}
-use Rattle.script.specs.declared.State.{State}
-use Rattle.script.specs.declared.Turn.{Turn}
-use Rattle.script.specs.declared.Turn.the-variants as turn
 use Rattle.script.proofs.SameColumns.{Columns-agree}
 use Rattle.script.proofs.SameRegisters.{Registers-agree}
 

@@ -1,5 +1,5 @@
 -- A start from lists that hold the same columns has the same fault, and where it has none both hold the same sound register.
--- Rests on SameColumns.antt, SameRegisters.antt, TwoLadders.antt, `register` and `pattern`.
+-- Rests on SameColumns.antt, SameRegisters.antt, TwoLadders.antt, `pattern`, `listing` and `register`.
 use mathlib.Core.List.{List}
 use mathlib.Core.Logic.{_≢_}
 use mathlib.Core.Path.{_≡_, refl, sym, subst, subst₂}
@@ -12,13 +12,13 @@ use Rattle.pattern.specs.Places.{at}
 use Rattle.pattern.specs.Turned.{Same-entries}
 use Rattle.pattern.proofs.Each.{length-each, each-at}
 use Rattle.pattern.proofs.Pairing.{sound-same}
-use Rattle.register.specs.Held.{Takes, holding}
-use Rattle.register.specs.Lent.{Lists, columns, rows, Sized, Sound-lists}
-use Rattle.register.specs.Limits.{max-total}
-use Rattle.register.specs.Listing.{Listing, Good}
+use Rattle.listing.specs.Limits.{Sized, max-total}
+use Rattle.listing.specs.Listing.{Listing, Good}
+use Rattle.listing.proofs.Listings.{good-columns, parts-start}
+use Rattle.register.specs.Takes.{Takes, holding}
+use Rattle.register.specs.Lent.{Lists, columns, rows, Sound-lists}
 use Rattle.register.specs.Start.{Started, started, own-places, Start-takes, Start-sound, start-lists, Starts-with}
 use Rattle.register.proofs.Holdings.{columns-back, holding-sound}
-use Rattle.register.proofs.Listings.{good-columns, parts-start}
 use Rattle.register.proofs.Starting.{start-good}
 use Rattle.script.proofs.Heads.{over-same}
 use Rattle.script.proofs.Roominess.{Ample, takes-less}

@@ -8,13 +8,14 @@ use native.Mathlib.Omega.{arith}
 use lib.Dec.{eqb, leb}
 use borrow.Author.Tests.{eqb-false, leb-false}
 use Rattle.pattern.proofs.Rungs.{unless-both}
+use Rattle.text.specs.Text.{LF, max-line}
 use Rattle.register.specs.Lent.{Lists}
+use Rattle.turns.specs.Turns.{Run, state, After, In-turn, taken, other, still-fits, with-column, Start-does, Col-ends, Line-does}
+use Rattle.turns.specs.declared.State.{State}
+use Rattle.turns.specs.declared.Turn.{Turn}
+use Rattle.turns.specs.declared.Turn.the-variants as turn
 use Rattle.script.specs.Feed.{Turn-right}
-use Rattle.script.specs.Text.{LF, max-line}
-use Rattle.script.specs.Tryout.{Run, state, After, In-turn, taken, other, still-fits, with-column, Start-does, Col-ends, Line-does, has-ended, Byte-does, Byte}
-use Rattle.script.specs.declared.State.{State}
-use Rattle.script.specs.declared.Turn.{Turn}
-use Rattle.script.specs.declared.Turn.the-variants as turn
+use Rattle.script.specs.Tryout.{has-ended, Byte-does, Byte}
 
 pub record Still (s s′ : State) : Type 0 where
   pub turn-right : Turn-right (s′ .turn)

@@ -1,5 +1,5 @@
 -- How far the bytes of a chunk have been taken: none yet, one more, and where the taking stops. Rests on Feeding.antt,
--- Steadiness.antt, LentLengths.antt and `sheet`.
+-- Steadiness.antt, LentLengths.antt, `text`, `replies` and `turns`.
 use mathlib.Core.Bool.{false}
 use mathlib.Core.List.{List, [], _++_}
 use mathlib.Core.Path.{_≡_, refl, ap₂, _∙_, subst}
@@ -11,16 +11,17 @@ use lib.ListN.{length, take}
 use lib.Seq.{take-suc}
 use Rattle.pattern.specs.Ladder.{holds}
 use Rattle.pattern.specs.Places.{at}
-use Rattle.sheet.specs.Puts.{Puts}
-use Rattle.sheet.proofs.Progress.{puts-both}
+use Rattle.text.specs.Puts.{Puts}
+use Rattle.text.proofs.Progress.{puts-both}
+use Rattle.replies.specs.Replies.{max-reply}
+use Rattle.turns.specs.Steps.{Steady, Makes}
+use Rattle.turns.specs.Turns.{Run, After, after}
+use Rattle.turns.specs.declared.State.{State}
+use Rattle.turns.proofs.Makings.{puts-none}
 use Rattle.script.specs.Feed.{Ready, Goes-on, fed-out, Feeds}
-use Rattle.script.specs.Steps.{Steady, Makes}
-use Rattle.script.specs.Text.{max-reply}
-use Rattle.script.specs.Tryout.{Run, After, after, has-ended, Byte, Fed}
-use Rattle.script.specs.declared.State.{State}
+use Rattle.script.specs.Tryout.{has-ended, Byte, Fed}
 use Rattle.script.proofs.Feeding.{fed-none, fed-more, fed-one}
 use Rattle.script.proofs.LentLengths.{As-long, as-long-roomy, as-long-same, as-long-both}
-use Rattle.script.proofs.Makings.{puts-none}
 use Rattle.script.proofs.Steadiness.{byte-stays}
 
 -- So many bytes of the chunk were taken, each while the run went on; the run `r′` stands after them, ready for the others, and what

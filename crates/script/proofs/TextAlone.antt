@@ -4,10 +4,11 @@ use mathlib.Core.List.{List, [], _∷_, _++_}
 use mathlib.Core.Path.{_≡_, refl, sym, ap₂, _∙_}
 use Prim.Native.Nat.{ℕ, _+_, _≤_}
 use native.Mathlib.Omega.{arith}
+use Rattle.text.specs.Text.{max-line}
+use Rattle.turns.specs.Turns.{Lent, Run, run, begun, After}
+use Rattle.turns.specs.declared.State.{State}
 use Rattle.script.specs.Feed.{Turn-right, Roomy}
-use Rattle.script.specs.Text.{max-line}
-use Rattle.script.specs.Tryout.{Lent, Run, run, begun, After, Fed, closing, Tryout}
-use Rattle.script.specs.declared.State.{State}
+use Rattle.script.specs.Tryout.{Fed, closing, Tryout}
 use Rattle.script.proofs.SameBytes.{byte-agree}
 use Rattle.script.proofs.SameRuns.{Runs-agree, Afters-agree, so-agree}
 use Rattle.script.proofs.Steadiness.{byte-stays}

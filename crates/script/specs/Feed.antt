@@ -1,17 +1,21 @@
--- What a call that feeds bytes to a run, and one that ends it, gives back. Rests on Tryout.antt, `register` and `pattern`.
+-- What a call that feeds bytes to a run, and one that ends it, gives back. Rests on Tryout.antt, `pattern`, `listing`, `text`,
+-- `register`, `replies` and `turns`.
 use mathlib.Core.Bool.{false}
 use mathlib.Core.List.{List}
 use mathlib.Core.Path.{_≡_}
 use Prim.Native.Nat.{ℕ, _+_, _≤_, _<_}
 use lib.ListN.{length, take}
 use Rattle.pattern.specs.Ladder.{Unless}
-use Rattle.register.specs.Held.{over, Takes}
-use Rattle.register.specs.Limits.{max-size, max-total}
-use Rattle.script.specs.Text.{max-line, max-reply, max-numbers, max-count}
-use Rattle.script.specs.Tryout.{Lent, Run, run, After, has-ended, Fed, closing}
-use Rattle.script.specs.declared.State.{State}
-use Rattle.script.specs.declared.Turn.{Turn}
-use Rattle.script.specs.declared.Turn.the-variants as turn
+use Rattle.listing.specs.Held.{over}
+use Rattle.listing.specs.Limits.{max-size, max-total}
+use Rattle.text.specs.Text.{max-line, max-numbers, max-count}
+use Rattle.register.specs.Takes.{Takes}
+use Rattle.replies.specs.Replies.{max-reply}
+use Rattle.turns.specs.Turns.{Lent, Run, run, After}
+use Rattle.turns.specs.declared.State.{State}
+use Rattle.turns.specs.declared.Turn.{Turn}
+use Rattle.turns.specs.declared.Turn.the-variants as turn
+use Rattle.script.specs.Tryout.{has-ended, Fed, closing}
 
 -- ---- Before a call
 

@@ -1,26 +1,27 @@
 // One byte of a run, and all bytes of a chunk.
 use crate::Fed;
-use crate::MAX_REPLY;
-use crate::State;
-use crate::Turn;
-use crate::col_turn::col_line;
 use crate::ended;
-use crate::order_turn::order_line;
-use crate::put_turn::put_line;
-use crate::turns::Step;
-use crate::turns::bad;
 use register::Register;
 use register::room::takes;
+use replies::MAX_REPLY;
+use turns::State;
+use turns::Step;
+use turns::Turn;
+use turns::col_turn::col_line;
+use turns::order_turn::order_line;
+use turns::put_turn::put_line;
+use turns::steps::bad;
 ghost use mathlib.Core.Bool.{false};
 ghost use mathlib.Core.Path.{_≡_};
 ghost use Prim.Native.Nat.{_+_, _≤_};
 ghost use lib.ListN.{length};
+ghost use Rattle.listing.specs.Says.{Says};
 ghost use Rattle.register.specs.Lent.{lists};
-ghost use Rattle.register.specs.Says.{Says};
+ghost use Rattle.replies.specs.Replies.{max-reply};
+ghost use Rattle.turns.specs.Steps.{Steady, Makes};
+ghost use Rattle.turns.specs.Turns.{lent, run, Line-does};
 ghost use Rattle.script.specs.Feed.{Turn-right, Roomy, Ready, fed-out, Feeds};
-ghost use Rattle.script.specs.Text.{max-reply};
-ghost use Rattle.script.specs.Steps.{Steady, Makes};
-ghost use Rattle.script.specs.Tryout.{lent, run, has-ended, Line-does, Byte};
+ghost use Rattle.script.specs.Tryout.{has-ended, Byte};
 
 // Whether the wanted column is one of the register's, which is in the limits.
 fn turn_right(turn: Turn) -> bool

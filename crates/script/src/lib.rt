@@ -1,48 +1,21 @@
 // The tryout: a text of replacements worked through, byte by byte, in lists that the caller lends. A run is a struct that goes in
 // and comes back; its reply lines go to the head of an output list.
 mod bytes;
-mod col_turn;
-mod lines;
-mod order_turn;
-mod put_turn;
-mod replies;
-mod turns;
-mod write;
 
 use crate::bytes::feed_ready;
 use crate::bytes::ready;
-use crate::replies::bad_line;
+use replies::MAX_REPLY;
+use replies::bad_line;
+use turns::State;
+use turns::Turn;
 ghost use mathlib.Core.Bool.{cond};
 ghost use mathlib.Core.List.{[]};
 ghost use mathlib.Core.Path.{_≡_};
 ghost use Rattle.register.specs.Lent.{lists};
+ghost use Rattle.replies.specs.Replies.{bad-line};
+ghost use Rattle.turns.specs.Turns.{lent, run, begun};
 ghost use Rattle.script.specs.Feed.{fed-out, Feeds, Finishes};
-ghost use Rattle.script.specs.Replies.{bad-line};
-ghost use Rattle.script.specs.Tryout.{lent, run, begun, has-ended, closing};
-
-// No reply line has more bytes.
-pub const MAX_REPLY: usize = 20000;
-
-// Which line is wanted: 'order', 'col' with its number (of so many, and whether all columns before it fit), 'put', or none.
-pub enum Turn {
-    Order,
-    Column {
-        size: usize,
-        column: usize,
-        fits: bool,
-    },
-    Put {
-        size: usize,
-    },
-    Ended,
-}
-
-// How a run stands: which line is wanted, the number of the line that is being read, and how many bytes of it there are.
-pub struct State {
-    pub turn: Turn,
-    pub number: usize,
-    pub used: usize,
-}
+ghost use Rattle.script.specs.Tryout.{has-ended, closing};
 
 // What comes of bytes that are fed: how the run stands, how many bytes were taken, and how many were written.
 pub struct Fed {

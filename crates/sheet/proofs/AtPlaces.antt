@@ -1,23 +1,21 @@
 -- What stands at a place of a register in lent lists, as the writer comes to it: a row of a column, a column that a look hands
--- over, a pair of the order. Rests on `register` and `pattern`.
+-- over. Rests on `pattern` and `listing`.
 use mathlib.Core.List.{List}
 use mathlib.Core.Path.{_≡_, ap, _∙_}
 use Prim.Native.Nat.{ℕ, _+_, _≤_, _<_}
 use native.Mathlib.Numerals.{add-one}
 use native.Mathlib.Omega.{arith}
-use lib.ListN.{length, getD}
+use lib.ListN.{length}
 use Rattle.pattern.specs.Ladder.{fails, holds}
 use Rattle.pattern.specs.Pattern.{column}
 use Rattle.pattern.specs.Places.{at}
 use Rattle.pattern.specs.Rising.{Rising}
-use Rattle.pattern.proofs.Each.{length-each, each-at}
-use Rattle.register.specs.Lent.{Sized}
-use Rattle.register.specs.Limits.{max-size}
-use Rattle.register.specs.Listing.{between, part, parts, Good}
-use Rattle.register.specs.Look.{Spans, Looked}
-use Rattle.register.proofs.Listings.{good-columns, good-within, good-column}
-use Rattle.register.proofs.Rises.{rising-few}
-use Rattle.sheet.specs.Sheet.{pairs}
+use Rattle.pattern.proofs.Each.{length-each}
+use Rattle.listing.specs.Limits.{Sized, max-size}
+use Rattle.listing.specs.Listing.{between, part, parts, Good}
+use Rattle.listing.specs.Look.{Spans, Looked}
+use Rattle.listing.proofs.Listings.{good-columns, good-within, good-column}
+use Rattle.listing.proofs.Rises.{rising-few}
 
 -- ---- A row
 
@@ -65,12 +63,3 @@ module _ {m : ℕ} {cs cr : List ℕ} (G : Good m cs cr) where
 
       up : Rising max-size rows
       up = rw is (column-rises c h)
-
--- ---- A pair
-
-module _ (m : ℕ) (or oc : List ℕ) where
-  pub pairs-length : length (pairs m or oc) ≡ m
-  pairs-length = length-each {A = ℕ × ℕ} (λ t. (at or t, at oc t)) m
-
-  pub pair-is : (t : ℕ) → t < m → getD (pairs m or oc) t (0, 0) ≡ (at or t, at oc t)
-  pair-is t h = each-at {A = ℕ × ℕ} (λ t. (at or t, at oc t)) m t (0, 0) h

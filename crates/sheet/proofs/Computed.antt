@@ -1,4 +1,5 @@
--- What a write and a read give back, by a computation: each call has a right outcome. Rests on `register`.
+-- What a write and a read give back, by a computation: each call has a right outcome. Rests on `pattern`, `listing` and
+-- `register`.
 use mathlib.Core.Bool.{Bool, _&&_}
 use mathlib.Core.List.{List}
 use mathlib.Core.Path.{refl}
@@ -6,10 +7,11 @@ use Prim.Native.Nat.{ℕ}
 use lib.Dec.{leb, ltb}
 use lib.ListN.{length}
 use Rattle.pattern.specs.Places.{at}
-use Rattle.register.specs.Held.{over, Takes}
+use Rattle.listing.specs.Held.{over}
+use Rattle.listing.specs.Says.{Says}
+use Rattle.listing.proofs.Answers.{says-as}
+use Rattle.register.specs.Takes.{Takes}
 use Rattle.register.specs.Lent.{Lists, columns}
-use Rattle.register.specs.Says.{Says}
-use Rattle.register.proofs.Answers.{says-as}
 use Rattle.register.proofs.Decided.{sized, long, formed, agree, ordered, says-sized, says-long, says-formed, says-agree, says-ordered}
 use Rattle.register.proofs.Deciding.{says-most, says-below, says-both, checked, checked-right}
 use Rattle.sheet.specs.Number.{Read, got, bad}

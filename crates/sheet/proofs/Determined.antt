@@ -1,12 +1,12 @@
--- No two replies, with what they leave, satisfy the statement of a public function for one input. Rests on `pattern` and
--- `register`.
+-- No two replies, with what they leave, satisfy the statement of a public function for one input. Rests on `pattern`, `listing`
+-- and `register`.
 use mathlib.Core.List.{List}
 use mathlib.Core.Path.{_≡_, sym, ap, _∙_}
 use Prim.Native.Nat.{ℕ}
 use native.Mathlib.Omega.{arith}
 use Rattle.pattern.proofs.Rungs.{unless-one}
+use Rattle.listing.proofs.Answers.{says-same}
 use Rattle.register.specs.Lent.{Lists}
-use Rattle.register.proofs.Answers.{says-same}
 use Rattle.register.proofs.Determined.{refusal-one}
 use Rattle.sheet.specs.Number.{Read, got, bad}
 use Rattle.sheet.specs.Reading.{record-read}

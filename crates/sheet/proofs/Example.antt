@@ -5,6 +5,7 @@ use mathlib.Core.Path.{_≡_, refl, subst}
 use Prim.Native.Nat.{ℕ}
 use Rattle.pattern.specs.Series.{numbers, tally}
 use Rattle.pattern.proofs.Rises.{under, rising}
+use Rattle.text.specs.Series.{series}
 use Rattle.register.specs.Lent.{Lists, lists}
 use Rattle.register.proofs.Deciding.{all, alike}
 use Rattle.register.proofs.Decided.{sized, roomy, started, listed, once-each, ordered, long, formed, agree}
@@ -12,7 +13,7 @@ use Rattle.sheet.specs.Number.{groups, got, byte, ended, number}
 use Rattle.sheet.specs.Reading.{onward, number-that, many, row-at, column-at, pair-at, record-read}
 use Rattle.sheet.specs.Reads.{Read-in, read-in, Reads}
 use Rattle.sheet.specs.Reply.{REFUSED, ACCEPTED}
-use Rattle.sheet.specs.Sheet.{Record, series, sheet}
+use Rattle.sheet.specs.Sheet.{Record, sheet}
 use Rattle.sheet.specs.Writes.{written-out, Writes}
 use Rattle.sheet.proofs.Computed.{written-of, written-right, taking, taken, read-of, read-right}
 

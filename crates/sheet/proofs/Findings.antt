@@ -5,8 +5,8 @@ use mathlib.Core.Path.{_≡_, refl, sym, subst}
 use Prim.Native.Nat.{ℕ, _≤_}
 use native.Mathlib.Omega.{arith}
 use lib.ListN.{length}
-use Rattle.register.specs.Limits.{max-size}
-use Rattle.register.specs.Says.{Says}
+use Rattle.listing.specs.Limits.{max-size}
+use Rattle.listing.specs.Says.{Says}
 use Rattle.sheet.specs.Number.{Read, got, bad}
 use Rattle.sheet.specs.Passes.{thing, Got, Scans}
 use Rattle.sheet.specs.Reading.{columns-at, order-at, record-read}

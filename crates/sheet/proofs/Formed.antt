@@ -13,7 +13,7 @@ use Rattle.pattern.specs.Rising.{Rising}
 use Rattle.pattern.proofs.Rises.{rising-none, rising-front}
 use Rattle.pattern.proofs.Tests.{has-cases}
 use Rattle.pattern.proofs.Turning.{Columns}
-use Rattle.register.specs.Limits.{max-total}
+use Rattle.listing.specs.Limits.{max-total}
 use Rattle.sheet.specs.Number.{Read, got}
 use Rattle.sheet.specs.Reading.{many, row-at, rows-at, column-at, columns-at, pair-at, order-at}
 use Rattle.sheet.specs.Sheet.{firsts, seconds, past, grown, counted}

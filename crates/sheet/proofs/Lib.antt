@@ -1,14 +1,13 @@
 -- What is true of numbers and sheets, and the proofs of the functions. Later files rest on earlier ones.
+pub mod Readings
+pub mod Determined
 pub mod Numbers
 pub mod Groups
 pub mod AtPlaces
-pub mod SeriesLaws
-pub mod Progress
 pub mod Sizes
 pub mod SheetPuts
 pub mod Writing
 pub mod Tests
-pub mod Readings
 pub mod Told
 pub mod Ranges
 pub mod Onward
@@ -34,5 +33,4 @@ pub mod Replies
 pub mod OneRecord
 pub mod Computed
 pub mod Example
-pub mod Determined
 pub mod StandIns

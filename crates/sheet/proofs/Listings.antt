@@ -1,4 +1,4 @@
--- A column listing that is stored column by column. Rests on `register` and `pattern`.
+-- A column listing that is stored column by column. Rests on `pattern` and `listing`.
 use mathlib.Core.List.{List, []}
 use mathlib.Core.Path.{_≡_, refl, sym, ap, _∙_, subst₂}
 use Prim.Native.Nat.{ℕ, _+_, _≤_, _<_}
@@ -13,12 +13,12 @@ use Rattle.pattern.proofs.Each.{length-each, each-at, each-is}
 use Rattle.pattern.proofs.Flats.{flat-more, flat-start}
 use Rattle.pattern.proofs.Tallies.{tally-none, tally-next, tally-more, flat-length}
 use Rattle.pattern.proofs.Turning.{Columns}
-use Rattle.register.specs.Held.{over, put, Held}
-use Rattle.register.specs.Limits.{max-size, max-total}
-use Rattle.register.specs.Listing.{parts, Good}
-use Rattle.register.proofs.Puts.{put-over, put-length}
-use Rattle.register.proofs.Readback.{held-start, held-parts, held-good}
-use Rattle.register.proofs.Storing.{Stored, stored-none, stored-more, stored-all}
+use Rattle.listing.specs.Held.{over, put, Held}
+use Rattle.listing.specs.Limits.{max-size, max-total}
+use Rattle.listing.specs.Listing.{parts, Good}
+use Rattle.listing.proofs.Puts.{put-over, put-length}
+use Rattle.listing.proofs.Readback.{held-start, held-parts, held-good}
+use Rattle.listing.proofs.Storing.{Stored, stored-none, stored-more, stored-all}
 
 -- Two lists have room for the listing of the `m` columns `P`.
 pub record Room-for (m : ℕ) (P : List (List ℕ)) (starts entries : List ℕ) : Type 0 where

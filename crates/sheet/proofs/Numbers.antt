@@ -1,5 +1,5 @@
--- The groups of a number by its three cases, how many there are, and how they are put one by one. Rests on specs/Number.antt
--- and `register`.
+-- The groups of a number by its three cases, how many there are, and how they are put one by one. Rests on specs/Number.antt,
+-- `listing` and `text`.
 use mathlib.Core.List.{List, [], _∷_}
 use mathlib.Core.Path.{_≡_, refl, sym, ap, _∙_, subst}
 use Prim.Native.Nat.{ℕ, _+_, _/_, _%_, _≤_, _<_}
@@ -9,10 +9,10 @@ use lib.ListN.{length, set}
 use lib.Seq.{getD-set-other, set-getD}
 use borrow.Author.Tests.{lt-ltb, le-ltb}
 use Rattle.pattern.specs.Places.{at}
-use Rattle.register.specs.Held.{put}
-use Rattle.register.proofs.Puts.{put-none, put-more}
+use Rattle.listing.specs.Held.{put}
+use Rattle.listing.proofs.Puts.{put-none, put-more}
+use Rattle.text.specs.Puts.{Puts}
 use Rattle.sheet.specs.Number.{groups}
-use Rattle.sheet.specs.Puts.{Puts}
 
 -- ---- The cases
 

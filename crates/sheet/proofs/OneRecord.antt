@@ -8,7 +8,8 @@ use native.Mathlib.Omega.{arith}
 use lib.ListN.{length, take, drop}
 use lib.Seq.{take-append-seam}
 use Rattle.pattern.proofs.Rungs.{unless-past, unless-held}
-use Rattle.register.specs.Held.{over, Takes}
+use Rattle.listing.specs.Held.{over}
+use Rattle.register.specs.Takes.{Takes}
 use Rattle.register.specs.Lent.{Lists, rows, Sound-lists}
 use Rattle.register.proofs.Soundness.{checks-held, checks-past, rows-turned}
 use Rattle.sheet.specs.Number.{Bytes, Read, got, bad}

@@ -1,13 +1,13 @@
--- Numbers that must pass a test: what is read of them, and tests that come to the same. Rests on Tests.antt, Told.antt and
--- `register`.
+-- Numbers that must pass a test: what is read of them, and tests that come to the same. Rests on Tests.antt, Told.antt, `listing`
+-- and `register`.
 use mathlib.Core.Bool.{Bool, true, false}
 use mathlib.Core.List.{List}
 use mathlib.Core.Path.{_≡_, sym, ap, _∙_, fun-ext}
 use Prim.Native.Nat.{ℕ, _+_, _-_, _≤_, _<_}
 use native.Mathlib.Omega.{arith}
 use lib.Dec.{ltb}
-use Rattle.register.proofs.Answers.{says-less, says-same}
-use Rattle.register.specs.Limits.{max-total}
+use Rattle.listing.specs.Limits.{max-total}
+use Rattle.listing.proofs.Answers.{says-less, says-same}
 use Rattle.register.specs.declared.Refusal.{Refusal}
 use Rattle.sheet.specs.Number.{got, bad, number}
 use Rattle.sheet.specs.Reading.{onward, number-that, count-test, row-at, count-at}

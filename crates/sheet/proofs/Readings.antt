@@ -7,12 +7,12 @@ use native.Mathlib.Omega.{arith}
 use lib.Dec.{ltb}
 use lib.ListN.{length}
 use borrow.Author.Tests.{ltb-true}
-use Rattle.register.specs.Limits.{max-size, max-total}
+use Rattle.listing.specs.Limits.{max-size, max-total}
 use Rattle.sheet.specs.Number.{Read, got, bad, number}
 use Rattle.sheet.specs.Passes.{thing}
 use Rattle.sheet.specs.Reading.{onward, number-that, many, size-test, count-test, size-at, row-at, rows-at, count-at, column-at, member-at, pair-at}
-use Rattle.sheet.proofs.Tests.{size-says, count-says}
 use Rattle.sheet.specs.Sheet.{past}
+use Rattle.sheet.proofs.Tests.{size-says, count-says}
 
 -- ---- One thing, and one after another
 

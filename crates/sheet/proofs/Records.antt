@@ -1,5 +1,5 @@
--- What lent lists say, and what they say once they hold a record: the record itself. Rests on SheetWritten.antt, Sizes.antt and
--- `register`.
+-- What lent lists say, and what they say once they hold a record: the record itself. Rests on SheetWritten.antt, Sizes.antt,
+-- `listing` and `register`.
 use mathlib.Core.List.{List, [], _∷_, map}
 use mathlib.Core.Path.{_≡_, refl, sym, ap, ap₂, _∙_}
 use Prim.Native.Nat.{ℕ, suc, _≤_, _<_}
@@ -9,17 +9,19 @@ use lib.Seq.{ext-getD}
 use Rattle.pattern.specs.Flat.{start-of}
 use Rattle.pattern.specs.Places.{at}
 use Rattle.pattern.specs.Turned.{turned}
+use Rattle.pattern.specs.Order.{pairs}
 use Rattle.pattern.proofs.Pairing.{sound-same}
 use Rattle.pattern.proofs.Tallies.{flat-length}
-use Rattle.register.specs.Held.{over, Takes}
+use Rattle.pattern.proofs.Pairs.{pairs-length, pair-is}
+use Rattle.listing.specs.Held.{over}
+use Rattle.listing.specs.Limits.{max-total}
+use Rattle.listing.proofs.Holding.{over-new}
+use Rattle.listing.proofs.Listings.{good-columns}
+use Rattle.register.specs.Takes.{Takes}
 use Rattle.register.specs.Lent.{Lists, rows, Sound-lists}
-use Rattle.register.specs.Limits.{max-total}
-use Rattle.register.proofs.Holding.{over-new}
 use Rattle.register.proofs.Holdings.{columns-back, rows-back, holding-sound}
-use Rattle.register.proofs.Listings.{good-columns}
 use Rattle.register.proofs.Soundness.{columns-good}
-use Rattle.sheet.specs.Sheet.{Record, pairs, firsts, seconds, record-of, total, Sound-record, held-record}
-use Rattle.sheet.proofs.AtPlaces.{pairs-length, pair-is}
+use Rattle.sheet.specs.Sheet.{Record, firsts, seconds, record-of, total, Sound-record, held-record}
 use Rattle.sheet.proofs.SheetWritten.{Well}
 use Rattle.sheet.proofs.Sizes.{entries-few}
 

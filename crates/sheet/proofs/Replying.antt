@@ -4,9 +4,9 @@ use mathlib.Core.Path.{_≡_, refl, sym, _∙_, subst, subst₂}
 use Prim.Native.Nat.{ℕ}
 use native.Mathlib.Omega.{arith}
 use Rattle.pattern.specs.Ladder.{fails, holds}
-use Rattle.register.specs.Held.{Takes}
+use Rattle.listing.specs.Says.{Says}
+use Rattle.register.specs.Takes.{Takes}
 use Rattle.register.specs.Lent.{Lists}
-use Rattle.register.specs.Says.{Says}
 use Rattle.sheet.specs.Number.{Read, got, bad}
 use Rattle.sheet.specs.Passes.{thing, Got, blank}
 use Rattle.sheet.specs.Reads.{Finds, Read-in, read-in, Accepts, Reads-as}

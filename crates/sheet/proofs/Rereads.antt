@@ -7,7 +7,7 @@ use native.Mathlib.Omega.{arith}
 use lib.ListN.{length, getD, List·getD-map}
 use Rattle.pattern.specs.Pattern.{column}
 use Rattle.pattern.specs.Places.{at}
-use Rattle.register.specs.Limits.{max-size, max-total}
+use Rattle.listing.specs.Limits.{max-size, max-total}
 use Rattle.sheet.specs.Number.{Read, got, number}
 use Rattle.sheet.specs.Passes.{thing, Got, Short}
 use Rattle.sheet.specs.Reading.{row-at, rows-at, column-at, pair-at}

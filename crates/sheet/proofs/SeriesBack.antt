@@ -7,9 +7,9 @@ use native.Mathlib.Nat.{add-zero}
 use native.Mathlib.Omega.{arith}
 use lib.ListN.{length, drop, length-append}
 use lib.Seq.{drop-drop, drop-append-seam}
+use Rattle.text.specs.Series.{series}
 use Rattle.sheet.specs.Number.{Read, got}
 use Rattle.sheet.specs.Reading.{onward, many}
-use Rattle.sheet.specs.Sheet.{series}
 use Rattle.sheet.proofs.Readings.{thing-same, next-same, many-next}
 
 -- Behind what stands from a place on.

@@ -1,14 +1,15 @@
--- A whole sheet put part by part: the size, the columns, the order. Each part has room. Rests on Progress.antt and Sizes.antt.
+-- A whole sheet put part by part: the size, the columns, the order. Each part has room. Rests on Sizes.antt, `listing` and
+-- `text`.
 use mathlib.Core.List.{List}
 use mathlib.Core.Path.{_≡_}
 use Prim.Native.Nat.{ℕ, _+_, _≤_}
 use native.Mathlib.Omega.{arith}
 use lib.ListN.{length}
-use Rattle.register.specs.Held.{over}
+use Rattle.listing.specs.Held.{over}
+use Rattle.text.specs.Puts.{Puts}
+use Rattle.text.proofs.Progress.{puts-both, puts-length}
 use Rattle.sheet.specs.Number.{groups}
-use Rattle.sheet.specs.Puts.{Puts}
 use Rattle.sheet.specs.Sheet.{Record, columns-bytes, order-bytes, sheet}
-use Rattle.sheet.proofs.Progress.{puts-both, puts-length}
 use Rattle.sheet.proofs.Sizes.{sheet-length}
 
 module _ (x : Record) (old : List ℕ) (room : length (sheet x) ≤ length old) where

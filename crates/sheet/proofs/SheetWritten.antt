@@ -13,9 +13,8 @@ use Rattle.pattern.specs.Places.{at}
 use Rattle.pattern.specs.Rising.{Rising}
 use Rattle.pattern.proofs.Rises.{rising-tail}
 use Rattle.pattern.proofs.Turning.{Columns}
-use Rattle.register.specs.Lent.{Sized}
-use Rattle.register.specs.Limits.{max-size, max-total}
-use Rattle.register.proofs.Rises.{rising-few}
+use Rattle.listing.specs.Limits.{Sized, max-size, max-total}
+use Rattle.listing.proofs.Rises.{rising-few}
 use Rattle.sheet.specs.Number.{max-number, groups, got}
 use Rattle.sheet.specs.Reading.{onward, number-that, many, size-test, count-test, size-at, row-at, rows-at, column-at, pair-at, record-read}
 use Rattle.sheet.specs.Sheet.{Record, firsts, seconds, total, past, grown, counted, row-bytes, rows-bytes, column-bytes, columns-bytes, pair-bytes, order-bytes, sheet}

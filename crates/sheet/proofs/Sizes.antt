@@ -1,5 +1,4 @@
--- How many the parts of a sheet have, at most or in sum. Rests on AtPlaces.antt, SeriesLaws.antt, Numbers.antt and
--- `register`.
+-- How many the parts of a sheet have, at most or in sum. Rests on AtPlaces.antt, Numbers.antt, `listing`, `text` and `register`.
 use mathlib.Core.List.{List, [], _∷_, _++_}
 use mathlib.Core.Path.{_≡_, ap, _∙_}
 use Prim.Native.Nat.{ℕ, suc, _+_, _-_, _*_, _≤_, _<_}
@@ -9,18 +8,21 @@ use Rattle.pattern.specs.Flat.{flat, start-of}
 use Rattle.pattern.specs.Pattern.{column}
 use Rattle.pattern.specs.Places.{at}
 use Rattle.pattern.specs.Rising.{Rising}
+use Rattle.pattern.specs.Order.{pairs}
 use Rattle.pattern.proofs.Tallies.{flat-length}
+use Rattle.pattern.proofs.Pairs.{pairs-length, pair-is}
+use Rattle.listing.specs.Limits.{max-size, max-total}
+use Rattle.listing.specs.Listing.{parts, Good}
+use Rattle.listing.proofs.Listings.{parts-start}
+use Rattle.listing.proofs.Rises.{rising-few}
+use Rattle.text.specs.Series.{series}
+use Rattle.text.proofs.SeriesLaws.{series-few}
 use Rattle.register.specs.Lent.{Lists, Sound-lists}
-use Rattle.register.specs.Limits.{max-size, max-total}
-use Rattle.register.specs.Listing.{parts, Good}
-use Rattle.register.proofs.Listings.{parts-start}
-use Rattle.register.proofs.Rises.{rising-few}
 use Rattle.register.proofs.Soundness.{columns-good}
 use Rattle.sheet.specs.Number.{groups}
-use Rattle.sheet.specs.Sheet.{Record, pairs, record-of, series, past, grown, counted, row-bytes, rows-bytes, column-bytes, columns-bytes, pair-bytes, order-bytes, sheet}
-use Rattle.sheet.proofs.AtPlaces.{parts-length, column-rises, pairs-length, pair-is}
+use Rattle.sheet.specs.Sheet.{Record, record-of, past, grown, counted, row-bytes, rows-bytes, column-bytes, columns-bytes, pair-bytes, order-bytes, sheet}
+use Rattle.sheet.proofs.AtPlaces.{parts-length, column-rises}
 use Rattle.sheet.proofs.Numbers.{groups-few, groups-short}
-use Rattle.sheet.proofs.SeriesLaws.{series-few}
 
 -- ---- The columns
 

@@ -1,9 +1,9 @@
--- What the tests of a size and of a count say. Rests on specs/Reading.antt and `register`.
+-- What the tests of a size and of a count say. Rests on specs/Reading.antt, `listing` and `register`.
 use Prim.Native.Nat.{ℕ, _+_, _≤_, _<_}
 use lib.Dec.{ltb, leb}
+use Rattle.listing.specs.Limits.{max-size, max-total}
+use Rattle.listing.specs.Says.{Says}
 use Rattle.register.proofs.Deciding.{says-below, says-most, says-both}
-use Rattle.register.specs.Limits.{max-size, max-total}
-use Rattle.register.specs.Says.{Says}
 use Rattle.sheet.specs.Reading.{size-test, count-test}
 
 pub size-says : (m : ℕ) → Says (size-test m) ((0 < m) × (m ≤ max-size))

@@ -1,4 +1,5 @@
--- One more than the greatest place of some rows, and 0 where there are none: what it says of a column. Rests on `register`.
+-- One more than the greatest place of some rows, and 0 where there are none: what it says of a column. Rests on `pattern`,
+-- `listing` and `register`.
 use mathlib.Core.Bool.{Bool}
 use mathlib.Core.List.{List, [], _∷_}
 use mathlib.Core.Path.{_≡_, sym, _∙_}
@@ -13,9 +14,9 @@ use Rattle.pattern.specs.Series.{greatest}
 use Rattle.pattern.proofs.Greatest.{greatest-low}
 use Rattle.pattern.proofs.Rises.{rising-below}
 use Rattle.pattern.proofs.Turning.{Columns}
+use Rattle.listing.specs.Says.{Says}
+use Rattle.listing.proofs.Answers.{says-as}
 use Rattle.register.specs.Order.{Placed, Topped}
-use Rattle.register.specs.Says.{Says}
-use Rattle.register.proofs.Answers.{says-as}
 use Rattle.register.proofs.Orders.{topped-sound, sound-topped}
 
 module _ (f : ℕ → ℕ) where

@@ -1,5 +1,5 @@
--- A write's ladder of checks: from a fault of the register to a refusal, and from none to the byte list. Rests on `register`
--- and `pattern`.
+-- A write's ladder of checks: from a fault of the register to a refusal, and from none to the byte list. Rests on `pattern`,
+-- `listing` and `register`.
 use mathlib.Core.List.{List}
 use mathlib.Core.Logic.{_≢_}
 use mathlib.Core.Path.{_≡_, refl, ap, ap₂}
@@ -8,8 +8,8 @@ use native.Mathlib.Omega.{arith}
 use lib.ListN.{length}
 use Rattle.pattern.specs.Ladder.{fails, holds}
 use Rattle.pattern.proofs.Rungs.{unless-map}
+use Rattle.listing.specs.Held.{over}
 use Rattle.register.specs.Checks.{First-fault}
-use Rattle.register.specs.Held.{over}
 use Rattle.register.specs.Lent.{Lists, Sound-lists}
 use Rattle.register.proofs.Soundness.{checks-taken}
 use Rattle.sheet.specs.Reply.{REFUSED, ACCEPTED}

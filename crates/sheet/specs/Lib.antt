@@ -3,7 +3,6 @@ pub mod Number
 pub mod Sheet
 pub mod Reading
 pub mod Passes
-pub mod Puts
 pub mod Reply
 pub mod Writes
 pub mod Reads

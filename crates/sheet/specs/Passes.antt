@@ -1,4 +1,4 @@
--- What one pass over a sheet finds, for the contracts of the steps of reading. Rests on Reading.antt and Reply.antt.
+-- What one pass over a sheet finds, for the contracts of the steps of reading. Rests on Reading.antt and `register`.
 use mathlib.Core.List.{List, []}
 use mathlib.Core.Path.{_≡_}
 use Prim.Native.Nat.{ℕ, _<_}

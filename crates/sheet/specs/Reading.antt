@@ -1,10 +1,10 @@
--- A sheet read from a list of bytes, with its faults in reading order. Rests on Sheet.antt, `register` and `pattern`.
+-- A sheet read from a list of bytes, with its faults in reading order. Rests on Sheet.antt and `listing`.
 use mathlib.Core.Bool.{Bool, cond, _&&_}
 use mathlib.Core.List.{List, [], _∷_}
 use Prim.Native.Nat.{ℕ, zero, suc, _+_}
 use lib.Dec.{eqb, ltb, leb}
 use lib.ListN.{length}
-use Rattle.register.specs.Limits.{max-size, max-total}
+use Rattle.listing.specs.Limits.{max-size, max-total}
 use Rattle.sheet.specs.Number.{Read, got, bad, number}
 use Rattle.sheet.specs.Sheet.{Record, past, grown, counted}
 

@@ -1,12 +1,12 @@
--- What reading a sheet gives back, for every call. Rests on Reading.antt, Reply.antt and `register`.
+-- What reading a sheet gives back, for every call. Rests on Reading.antt, Reply.antt, `listing` and `register`.
 use mathlib.Core.Bool.{Bool}
 use mathlib.Core.List.{List}
 use mathlib.Core.Path.{_≡_}
 use Prim.Native.Nat.{ℕ}
 use Rattle.pattern.specs.Ladder.{Unless}
-use Rattle.register.specs.Held.{Takes}
+use Rattle.listing.specs.Says.{Says}
+use Rattle.register.specs.Takes.{Takes}
 use Rattle.register.specs.Lent.{Lists}
-use Rattle.register.specs.Says.{Says}
 use Rattle.sheet.specs.Number.{Read, got, bad}
 use Rattle.sheet.specs.Reading.{record-read}
 use Rattle.sheet.specs.Reply.{Reply, REFUSED, ACCEPTED, Finding, refused, found}

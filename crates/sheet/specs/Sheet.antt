@@ -1,15 +1,15 @@
--- The sheet of a register. Rests on Number.antt, `register` and `pattern`.
-use mathlib.Core.List.{List, [], _∷_, _++_, map}
+-- The sheet of a register. Rests on Number.antt, `pattern`, `listing`, `text` and `register`.
+use mathlib.Core.List.{List, _++_, map}
 use Prim.Native.Nat.{ℕ, _+_, _-_}
 use lib.ListN.{length}
 use Rattle.pattern.specs.Flat.{flat}
-use Rattle.pattern.specs.Order.{Sound}
+use Rattle.pattern.specs.Order.{Sound, pairs}
 use Rattle.pattern.specs.Pattern.{Entry}
 use Rattle.pattern.specs.Places.{at}
-use Rattle.pattern.specs.Series.{each}
-use Rattle.register.specs.Held.{holding}
+use Rattle.listing.specs.Listing.{parts}
+use Rattle.text.specs.Series.{series}
+use Rattle.register.specs.Takes.{holding}
 use Rattle.register.specs.Lent.{Lists}
-use Rattle.register.specs.Listing.{parts}
 use Rattle.sheet.specs.Number.{groups}
 
 -- ---- What a register and its sheet both say
@@ -20,10 +20,7 @@ pub record Record : Type 0 where
   pub columns : List (List ℕ)
   pub order : List (ℕ × ℕ)
 
--- The pairs of the first `m` places of two lists, and of pairs the rows and the columns.
-abbrev pub pairs : ℕ → List ℕ → List ℕ → List (ℕ × ℕ)
-pairs m rows cols = each (λ t. (at rows t, at cols t)) m
-
+-- Of pairs the rows and the columns.
 abbrev pub firsts : List (ℕ × ℕ) → List ℕ
 firsts = map (λ (p : ℕ × ℕ). p .0)
 
@@ -52,12 +49,6 @@ abbrev pub held-record : Record → Lists → Lists
 held-record x = holding (x .size) (x .columns) (firsts (x .order)) (seconds (x .order))
 
 -- ---- Its bytes
-
--- Things one after another. Each is written by `one`, which knows a number: `s` at the first thing, and from one thing to the
--- next what `after` makes of it.
-unfoldable pub series : {A : Type 0} (one : ℕ → A → List ℕ) (after : ℕ → A → ℕ) (s : ℕ) → List A → List ℕ
-series one after s [] = []
-series one after s (x ∷ l) = one s x ++ series one after (after s x) l
 
 -- At a row, the least that it can be: 0 at the first, and then one more than the row before.
 abbrev pub past : ℕ → ℕ → ℕ

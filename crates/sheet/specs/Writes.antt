@@ -1,11 +1,11 @@
--- What writing a sheet gives back, for every call. Rests on Sheet.antt, Reply.antt and `register`.
+-- What writing a sheet gives back, for every call. Rests on Sheet.antt, Reply.antt, `listing` and `register`.
 use mathlib.Core.List.{List}
 use mathlib.Core.Path.{_≡_}
 use Prim.Native.Nat.{ℕ, _≤_}
 use lib.ListN.{length}
 use Rattle.pattern.specs.Ladder.{Unless}
+use Rattle.listing.specs.Held.{over}
 use Rattle.register.specs.Checks.{Checks}
-use Rattle.register.specs.Held.{over}
 use Rattle.register.specs.Lent.{Lists}
 use Rattle.sheet.specs.Reply.{Reply, REFUSED, ACCEPTED}
 use Rattle.sheet.specs.Sheet.{record-of, sheet}

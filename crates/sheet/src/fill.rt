@@ -1,15 +1,16 @@
 // The last passes over a sheet that is accepted: its register goes into the lent lists.
 use crate::items::known;
 use crate::items::known_pair;
-use register::turn::turn;
+use listing::turn::turn;
 ghost use mathlib.Core.List.{[]};
 ghost use mathlib.Core.Path.{_≡_};
 ghost use Prim.Native.Nat.{_+_, _≤_, _<_};
 ghost use lib.ListN.{length};
 ghost use Rattle.pattern.specs.Flat.{flat};
-ghost use Rattle.register.specs.Held.{over, put, Held, Takes};
+ghost use Rattle.listing.specs.Held.{over, put, Held};
+ghost use Rattle.listing.specs.Limits.{max-size};
+ghost use Rattle.register.specs.Takes.{Takes};
 ghost use Rattle.register.specs.Lent.{lists};
-ghost use Rattle.register.specs.Limits.{max-size};
 ghost use Rattle.sheet.specs.Number.{got};
 ghost use Rattle.sheet.specs.Passes.{thing, Got, blank};
 ghost use Rattle.sheet.specs.Reading.{rows-at, columns-at, order-at, record-read};

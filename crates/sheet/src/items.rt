@@ -8,7 +8,7 @@ use register::Register;
 ghost use mathlib.Core.Path.{_≡_};
 ghost use Prim.Native.Nat.{ℕ, _≤_};
 ghost use lib.Dec.{ltb};
-ghost use Rattle.register.specs.Limits.{max-size, max-total};
+ghost use Rattle.listing.specs.Limits.{max-size, max-total};
 ghost use Rattle.sheet.specs.Number.{got, number};
 ghost use Rattle.sheet.specs.Passes.{Got, Short};
 ghost use Rattle.sheet.specs.Reading.{number-that, size-at, row-at, count-at, pair-at};

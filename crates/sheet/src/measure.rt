@@ -5,10 +5,10 @@ ghost use mathlib.Core.Path.{_≡_};
 ghost use Prim.Native.Nat.{_≤_};
 ghost use lib.ListN.{length};
 ghost use Rattle.pattern.specs.Rising.{Rising};
-ghost use Rattle.register.specs.Lent.{Sized};
-ghost use Rattle.register.specs.Limits.{max-size};
-ghost use Rattle.register.specs.Listing.{parts, Good};
-ghost use Rattle.sheet.specs.Sheet.{pairs, record-in, rows-bytes, columns-bytes, order-bytes, sheet};
+ghost use Rattle.pattern.specs.Order.{pairs};
+ghost use Rattle.listing.specs.Limits.{Sized, max-size};
+ghost use Rattle.listing.specs.Listing.{parts, Good};
+ghost use Rattle.sheet.specs.Sheet.{record-in, rows-bytes, columns-bytes, order-bytes, sheet};
 
 // Of the rows of one column, without their count.
 fn measure_rows(rows: &[u16]) -> usize

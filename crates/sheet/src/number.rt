@@ -6,8 +6,8 @@ ghost use Prim.Native.Nat.{_+_, _*_, _/_, _%_, _≤_, _<_};
 ghost use lib.Dec.{eqb};
 ghost use lib.ListN.{length};
 ghost use Rattle.pattern.specs.Places.{at};
+ghost use Rattle.text.specs.Puts.{Puts};
 ghost use Rattle.sheet.specs.Number.{max-number, groups, number, ended};
-ghost use Rattle.sheet.specs.Puts.{Puts};
 ghost use Rattle.sheet.specs.Reply.{told};
 
 // A number and the place after it, or the fault and the place at which the number begins. Numbers reach 2,097,151.

@@ -6,12 +6,12 @@ ghost use Prim.Native.Nat.{_+_, _≤_, _<_};
 ghost use lib.ListN.{length};
 ghost use Rattle.pattern.specs.Places.{at};
 ghost use Rattle.pattern.specs.Rising.{Rising};
-ghost use Rattle.register.specs.Held.{over};
-ghost use Rattle.register.specs.Lent.{Sized};
-ghost use Rattle.register.specs.Limits.{max-size};
-ghost use Rattle.register.specs.Listing.{parts, Good};
-ghost use Rattle.sheet.specs.Puts.{Puts};
-ghost use Rattle.sheet.specs.Sheet.{pairs, record-in, rows-bytes, columns-bytes, order-bytes, sheet};
+ghost use Rattle.pattern.specs.Order.{pairs};
+ghost use Rattle.listing.specs.Held.{over};
+ghost use Rattle.listing.specs.Limits.{Sized, max-size};
+ghost use Rattle.listing.specs.Listing.{parts, Good};
+ghost use Rattle.text.specs.Puts.{Puts};
+ghost use Rattle.sheet.specs.Sheet.{record-in, rows-bytes, columns-bytes, order-bytes, sheet};
 
 // The rows of one column, without their count; like the others it replies the place after what it puts.
 fn put_rows(rows: &[u16], bytes: &mut [u8], place: usize) -> usize

@@ -10,7 +10,7 @@ ghost use mathlib.Core.Path.{_≡_};
 ghost use Prim.Native.Nat.{ℕ, _≤_};
 ghost use lib.ListN.{length};
 ghost use Rattle.pattern.specs.Flat.{flat};
-ghost use Rattle.register.specs.Limits.{max-size, max-total};
+ghost use Rattle.listing.specs.Limits.{max-size, max-total};
 ghost use Rattle.sheet.specs.Passes.{gauged, Scans};
 ghost use Rattle.sheet.specs.Reading.{rows-at, column-at, columns-at, pair-at, order-at};
 ghost use Rattle.sheet.specs.Reply.{told};

@@ -1,4 +1,5 @@
--- The whole calls s1 to s12 are right, from the definitions: computed once. Rests on `register`.
+-- The whole calls s1 to s12 are right, from the definitions: computed once. Rests on `pattern`, `register`, `judge` and
+-- `replace`.
 use mathlib.Core.List.{List, [], _∷_, map}
 use mathlib.Core.Path.{_≡_, refl, subst}
 use Rattle.pattern.specs.Places.{least, place}
@@ -9,10 +10,11 @@ use Rattle.pattern.proofs.Peeled.{left, all-but, available, grow, peeled}
 use Rattle.pattern.proofs.Reaching.{reached}
 use Rattle.pattern.proofs.Rises.{under, rising}
 use Rattle.pattern.proofs.Tests.{meets}
-use Rattle.register.specs.Replace.{asked, Replaces}
 use Rattle.register.proofs.Deciding.{all, alike}
 use Rattle.register.proofs.Decided.{sized, roomy, started, listed, once-each, ordered, long, formed, agree, fitting}
-use Rattle.register.proofs.Outcomes.{outcome-of, outcome-right}
+use Rattle.judge.specs.Call.{asked}
+use Rattle.replace.specs.Replace.{Replaces}
+use Rattle.replace.proofs.Outcomes.{outcome-of, outcome-right}
 use Rattle.specimens.specs.Calls.{Case, table, second}
 use Rattle.specimens.specs.Table as by-pattern
 

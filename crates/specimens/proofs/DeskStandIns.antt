@@ -8,9 +8,9 @@ use lib.Dec.{lit<}
 use lib.ListN.{length, getD}
 use Rattle.pattern.specs.Places.{at}
 use Rattle.register.specs.Lent.{Lists}
-use Rattle.register.specs.Replace.{Outcome, outcome, Replaces}
-use Rattle.register.specs.Reply.{Reply, refused, elimination}
-use Rattle.register.proofs.Determined.{outcome-one}
+use Rattle.replace.specs.Replace.{Outcome, outcome, Replaces}
+use Rattle.replace.specs.Reply.{Reply, refused, elimination}
+use Rattle.replace.proofs.Determined.{outcome-one}
 use Rattle.specimens.specs.Calls.{s1, s4, s5, table, second}
 use Rattle.specimens.proofs.Called.{Right, cases, second-right}
 use Rattle.specimens.proofs.StandIns.{at-place}

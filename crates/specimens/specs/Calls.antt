@@ -1,11 +1,11 @@
--- The build paper's specimen replacements s1 to s12 as whole calls: the lists as they are lent and as they come back, number
--- by number. Each list is longer than needed, and holds 9s past what the register uses. Rests on `register`.
+-- The build paper's specimen replacements s1 to s12 as whole calls: the lists as they are lent and as they come back, number by
+-- number. Each list is longer than needed, and holds 9s past what the register uses. Rests on `register`, `judge` and `replace`.
 use mathlib.Core.List.{List, [], _∷_}
 use Prim.Native.Nat.{ℕ}
-use Rattle.register.specs.Checks.{Call, call}
 use Rattle.register.specs.Lent.{Lists, lists}
-use Rattle.register.specs.Replace.{Outcome, outcome}
-use Rattle.register.specs.Reply.{Reply, refused, singular, permuted, elimination}
+use Rattle.judge.specs.Call.{Call, call}
+use Rattle.replace.specs.Replace.{Outcome, outcome}
+use Rattle.replace.specs.Reply.{Reply, refused, singular, permuted, elimination}
 
 -- A call, and what comes back.
 pub record Case : Type 0 where

@@ -1,6 +1,6 @@
 // The tryout program: reads a text of replacements from standard input and writes a reply line for each. The bytes of each read are
 // fed to a run of `script`, and what that printed is written at once.
-use script::State;
+use turns::State;
 ghost use Prim.Native.Nat.{_<_};
 
 // What a text works in; the entry lists have 12,000 places.

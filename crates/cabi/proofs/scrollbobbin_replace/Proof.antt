@@ -1,6 +1,6 @@
 -- `scrollbobbin_replace`: the register's reply, told as three numbers.
 use borrow.Author.Needs.{needs}
-use Rattle.register.specs.Reply.{reply}
+use Rattle.replace.specs.Reply.{reply}
 use Rattle.cabi.proofs.scrollbobbin_replace.Statement.{statement}
 use Rattle.cabi.proofs.scrollbobbin_replace.Tie as tie
 

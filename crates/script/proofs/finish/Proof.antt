@@ -4,8 +4,8 @@ use native.Mathlib.Omega.{arith}
 use borrow.Author.Needs.{needs}
 use borrow.Author.Tests.{not-true, not-false}
 use Rattle.pattern.specs.Ladder.{fails}
+use Rattle.turns.proofs.Makings.{puts-none}
 use Rattle.script.proofs.Closings.{finishes}
-use Rattle.script.proofs.Makings.{puts-none}
 use Rattle.script.proofs.finish.Statement.{statement}
 use Rattle.script.proofs.finish.Tie as tie
 

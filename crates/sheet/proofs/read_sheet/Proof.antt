@@ -4,9 +4,9 @@ use mathlib.Core.Path.{ap}
 use Prim.Native.Nat.{ℕ}
 use borrow.Author.Needs.{needs}
 use borrow.Author.Tests.{not-true, not-false}
-use Rattle.register.specs.Held.{Takes}
+use Rattle.listing.proofs.Answers.{refuted, shown}
+use Rattle.register.specs.Takes.{Takes}
 use Rattle.register.specs.Lent.{Lists, lists}
-use Rattle.register.proofs.Answers.{refuted, shown}
 use Rattle.sheet.specs.Reading.{record-read}
 use Rattle.sheet.specs.Reply.{finding}
 use Rattle.sheet.proofs.Replying.{reads-refused, Found, finds-found, reads-short, reads-room, reads-unsound, reads-accepted}

@@ -5,7 +5,7 @@ use native.Mathlib.Omega.{arith}
 use lib.ListN.{length}
 use borrow.Author.Needs.{needs}
 use Rattle.register.specs.Lent.{Lists, lists, Sound-lists}
-use Rattle.register.proofs.Calls.{number-some}
+use Rattle.register.proofs.Refusals.{number-some}
 use Rattle.register.proofs.Soundness.{fault-none, columns-good}
 use Rattle.sheet.specs.Sheet.{record-of, sheet}
 use Rattle.sheet.proofs.Sizes.{sheet-longest}

@@ -7,7 +7,7 @@ use lib.ListN.{length, drop, length-drop}
 use lib.Seq.{length-take-le}
 use borrow.Author.Needs.{needs}
 use Rattle.register.specs.Lent.{lists}
-use Rattle.script.specs.Tryout.{lent}
+use Rattle.turns.specs.Turns.{lent}
 use Rattle.script.proofs.Bounds.{feeds-taken, feeds-written}
 use Rattle.script.proofs.LentLengths.{As-long, as-long-same, as-long-both}
 use Rattle.tryout.proofs.work.Statement.{statement}

@@ -6,7 +6,7 @@ use lib.ListN.{length, length-set}
 use borrow.Author.Needs.{needs}
 use borrow.Author.Count.{below-none}
 use Rattle.pattern.specs.Places.{at}
-use Rattle.register.proofs.Stores.{stored-more}
+use Rattle.listing.proofs.Stores.{stored-more}
 use Rattle.register.proofs.Register.fresh_order.Statement.{statement}
 use Rattle.register.proofs.Register.fresh_order.Tie as tie
 

@@ -2,7 +2,7 @@
 use mathlib.Core.Path.{refl}
 use native.Mathlib.Omega.{arith}
 use borrow.Author.Needs.{needs}
-use Rattle.register.proofs.Spans.{in-order}
+use Rattle.listing.proofs.Spans.{in-order}
 use Rattle.register.proofs.Register.look.Statement.{statement}
 use Rattle.register.proofs.Register.look.Tie as tie
 

@@ -3,7 +3,7 @@ use mathlib.Core.Path.{refl}
 use native.Mathlib.Omega.{arith}
 use borrow.Author.Needs.{needs}
 use Rattle.pattern.specs.Ladder.{fails, holds}
-use Rattle.register.proofs.Answers.{refuted, shown}
+use Rattle.listing.proofs.Answers.{refuted, shown}
 use Rattle.register.proofs.check.check.Statement.{statement}
 use Rattle.register.proofs.check.check.Tie as tie
 

@@ -6,15 +6,15 @@ use native.Mathlib.Omega.{arith}
 use borrow.Author.Needs.{needs}
 use Rattle.pattern.specs.Places.{at}
 use Rattle.pattern.specs.Ladder.{Unless, fails, holds}
+use Rattle.listing.specs.Falls.{Parts-rise}
+use Rattle.listing.specs.Listing.{Starts, Listing, Good}
+use Rattle.listing.specs.Says.{Says}
+use Rattle.listing.specs.Walk.{Rows-turned}
+use Rattle.listing.proofs.Answers.{refuted, shown, says-as}
 use Rattle.register.specs.Checks.{Contents}
-use Rattle.register.specs.Falls.{Parts-rise}
 use Rattle.register.specs.Lent.{Lists, lists, columns, Order-sound}
-use Rattle.register.specs.Listing.{Starts, Listing, Good}
 use Rattle.register.specs.Order.{Placed}
-use Rattle.register.specs.Says.{Says}
-use Rattle.register.specs.Walk.{Rows-turned}
 use Rattle.register.proofs.Agreement.{turned-formed, turned-agrees, agrees-turned}
-use Rattle.register.proofs.Answers.{refuted, shown, says-as}
 use Rattle.register.proofs.Orders.{there-placed}
 use Rattle.register.proofs.Tops.{tops-sound, sound-tops}
 use Rattle.register.proofs.check.contents.Statement.{statement}

@@ -1,7 +1,7 @@
 -- `long_enough`: each test that fails names a list that is too short.
 use native.Mathlib.Omega.{arith}
 use borrow.Author.Needs.{needs}
-use Rattle.register.proofs.Answers.{told-yes, told-no}
+use Rattle.listing.proofs.Answers.{told-yes, told-no}
 use Rattle.register.proofs.check.long_enough.Statement.{statement}
 use Rattle.register.proofs.check.long_enough.Tie as tie
 

@@ -2,7 +2,7 @@
 use mathlib.Core.Path.{refl}
 use borrow.Author.Needs.{needs}
 use Rattle.pattern.specs.Ladder.{fails, holds}
-use Rattle.register.proofs.Answers.{refuted, shown}
+use Rattle.listing.proofs.Answers.{refuted, shown}
 use Rattle.register.proofs.check.unlike.Statement.{statement}
 use Rattle.register.proofs.check.unlike.Tie as tie
 

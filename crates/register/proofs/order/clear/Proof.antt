@@ -5,7 +5,7 @@ use native.Mathlib.Omega.{arith}
 use lib.ListN.{length, length-set}
 use borrow.Author.Needs.{needs}
 use Rattle.pattern.specs.Places.{at}
-use Rattle.register.proofs.Stores.{stored-more}
+use Rattle.listing.proofs.Stores.{stored-more}
 use Rattle.register.proofs.order.clear.Statement.{statement}
 use Rattle.register.proofs.order.clear.Tie as tie
 

@@ -4,7 +4,7 @@ use Prim.Native.Nat.{_-_, _≤_}
 use native.Mathlib.Omega.{arith}
 use borrow.Author.Needs.{needs}
 use Rattle.pattern.specs.Places.{at}
-use Rattle.register.proofs.Answers.{told-yes, told-no}
+use Rattle.listing.proofs.Answers.{told-yes, told-no}
 use Rattle.register.proofs.Orders.{Entered, entered-none, entered-twice, entered-more, entered-all}
 use Rattle.register.proofs.order.enter.Statement.{statement}
 use Rattle.register.proofs.order.enter.Tie as tie

@@ -11,11 +11,11 @@ use Rattle.pattern.specs.Rising.{Rising}
 use Rattle.pattern.specs.Series.{greatest}
 use Rattle.pattern.proofs.Greatest.{greatest-low}
 use Rattle.pattern.proofs.Rises.{rising-below}
-use Rattle.register.specs.Limits.{max-size}
-use Rattle.register.specs.Listing.{parts}
+use Rattle.listing.specs.Limits.{max-size}
+use Rattle.listing.specs.Listing.{parts}
+use Rattle.listing.proofs.Listings.{good-within, good-column}
+use Rattle.listing.proofs.Stores.{stored-more}
 use Rattle.register.specs.Order.{Tops}
-use Rattle.register.proofs.Listings.{good-within, good-column}
-use Rattle.register.proofs.Stores.{stored-more}
 use Rattle.register.proofs.order.lay_tops.Statement.{statement}
 use Rattle.register.proofs.order.lay_tops.Tie as tie
 

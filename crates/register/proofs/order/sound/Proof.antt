@@ -3,7 +3,7 @@ use mathlib.Core.Path.{refl}
 use native.Mathlib.Omega.{arith}
 use borrow.Author.Needs.{needs}
 use lib.ListN.{getD-replicate}
-use Rattle.register.proofs.Answers.{told-no, refuted, shown, says-as}
+use Rattle.listing.proofs.Answers.{told-no, refuted, shown, says-as}
 use Rattle.register.proofs.Orders.{placed-below}
 use Rattle.register.proofs.Tops.{tops-sound, sound-tops}
 use Rattle.register.proofs.order.sound.Statement.{statement}

@@ -5,8 +5,8 @@ use native.Mathlib.Omega.{arith}
 use borrow.Author.Needs.{needs}
 use borrow.Author.Count.{below-none, below-more}
 use Rattle.pattern.specs.Places.{at}
+use Rattle.listing.proofs.Answers.{told-yes, told-no}
 use Rattle.register.specs.Order.{At-top}
-use Rattle.register.proofs.Answers.{told-yes, told-no}
 use Rattle.register.proofs.order.topped.Statement.{statement}
 use Rattle.register.proofs.order.topped.Tie as tie
 

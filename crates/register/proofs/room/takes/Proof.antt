@@ -1,6 +1,6 @@
 -- `takes`: one length after another.
 use native.Mathlib.Omega.{arith}
-use Rattle.register.proofs.Answers.{told-yes, told-no}
+use Rattle.listing.proofs.Answers.{told-yes, told-no}
 use Rattle.register.proofs.room.takes.Statement.{statement}
 use Rattle.register.proofs.room.takes.Tie as tie
 

@@ -6,8 +6,8 @@ use native.Mathlib.Omega.{arith}
 use borrow.Author.Needs.{needs}
 use borrow.Author.Count.{below-none, below-more}
 use Rattle.pattern.specs.Places.{at}
-use Rattle.register.specs.Says.{Told}
-use Rattle.register.proofs.Answers.{told-yes, told-no, told-not, told-as}
+use Rattle.listing.specs.Says.{Told}
+use Rattle.listing.proofs.Answers.{told-yes, told-no, told-not, told-as}
 use Rattle.register.proofs.same.all_met.Statement.{statement}
 use Rattle.register.proofs.same.all_met.Tie as tie
 

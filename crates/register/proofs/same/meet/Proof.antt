@@ -9,9 +9,9 @@ use lib.Seq.{take-all}
 use borrow.Author.Needs.{needs}
 use Rattle.pattern.specs.Places.{at}
 use Rattle.pattern.specs.Series.{greatest}
-use Rattle.register.specs.Limits.{max-size, max-total}
-use Rattle.register.specs.Walk.{All-next, Past}
-use Rattle.register.proofs.Answers.{told-yes, told-no}
+use Rattle.listing.specs.Limits.{max-size, max-total}
+use Rattle.listing.specs.Walk.{All-next, Past}
+use Rattle.listing.proofs.Answers.{told-yes, told-no}
 use Rattle.register.proofs.Orders.{greatest-on}
 use Rattle.register.proofs.Passing.{past-none, past-more, cursor-most, has-next}
 use Rattle.register.proofs.same.meet.Statement.{statement}

@@ -12,16 +12,16 @@ use Rattle.pattern.specs.Rising.{Rising}
 use Rattle.pattern.specs.Series.{greatest}
 use Rattle.pattern.specs.Turned.{row-of}
 use Rattle.pattern.proofs.Rises.{rising-below}
-use Rattle.register.specs.Limits.{max-size}
-use Rattle.register.specs.Listing.{parts}
+use Rattle.listing.specs.Limits.{max-size}
+use Rattle.listing.specs.Listing.{parts}
+use Rattle.listing.specs.Walk.{All-next}
+use Rattle.listing.proofs.Answers.{told-no, told-as, refuted, shown}
+use Rattle.listing.proofs.Listings.{starts-rise, good-columns, good-column, good-within}
+use Rattle.listing.proofs.Rises.{rising-within}
+use Rattle.listing.proofs.Stores.{stored-more}
 use Rattle.register.specs.Order.{Tops}
-use Rattle.register.specs.Walk.{All-next}
-use Rattle.register.proofs.Answers.{told-no, told-as, refuted, shown}
 use Rattle.register.proofs.Agreement.{ends-turned, turned-ends}
-use Rattle.register.proofs.Listings.{starts-rise, good-columns, good-column, good-within}
 use Rattle.register.proofs.Passing.{Passed, passed-none, passed-more, cursor-small, turned-next}
-use Rattle.register.proofs.Rises.{rising-within}
-use Rattle.register.proofs.Stores.{stored-more}
 use Rattle.register.proofs.same.same.Statement.{statement}
 use Rattle.register.proofs.same.same.Tie as tie
 

@@ -5,8 +5,8 @@ use native.Mathlib.Omega.{arith}
 use lib.ListN.{length}
 use borrow.Author.Needs.{needs}
 use Rattle.pattern.proofs.Each.{length-each, each-at}
+use Rattle.listing.proofs.Storing.{Stored, stored-none, stored-more, stored-all}
 use Rattle.register.specs.Start.{own-places}
-use Rattle.register.proofs.Storing.{Stored, stored-none, stored-more, stored-all}
 use Rattle.register.proofs.start.lay_own.Statement.{statement}
 use Rattle.register.proofs.start.lay_own.Tie as tie
 

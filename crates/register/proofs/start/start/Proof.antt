@@ -3,7 +3,7 @@ use Prim.Native.Nat.{ℕ}
 use native.Mathlib.Omega.{arith}
 use borrow.Author.Needs.{needs}
 use Rattle.register.specs.Lent.{Lists, lists}
-use Rattle.register.proofs.Calls.{number-some}
+use Rattle.register.proofs.Refusals.{number-some}
 use Rattle.register.proofs.Starting.{start-refused, Startable, startable, started-right, start-good}
 use Rattle.register.proofs.start.start.Statement.{statement}
 use Rattle.register.proofs.start.start.Tie as tie

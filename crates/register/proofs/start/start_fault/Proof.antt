@@ -4,11 +4,12 @@ use Prim.Native.Nat.{ℕ}
 use native.Mathlib.Omega.{arith}
 use borrow.Author.Needs.{needs}
 use Rattle.pattern.specs.Ladder.{fails, holds}
-use Rattle.register.specs.Lent.{Lists, lists, Sized}
-use Rattle.register.specs.Listing.{Listing}
-use Rattle.register.specs.Says.{Says}
+use Rattle.listing.specs.Limits.{Sized}
+use Rattle.listing.specs.Listing.{Listing}
+use Rattle.listing.specs.Says.{Says}
+use Rattle.listing.proofs.Answers.{refuted, shown}
+use Rattle.register.specs.Lent.{Lists, lists}
 use Rattle.register.specs.Start.{Start-takes}
-use Rattle.register.proofs.Answers.{refuted, shown}
 use Rattle.register.proofs.Starting.{start-good, fresh-sound, sound-fresh}
 use Rattle.register.proofs.start.start_fault.Statement.{statement}
 use Rattle.register.proofs.start.start_fault.Tie as tie

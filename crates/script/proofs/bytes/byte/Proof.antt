@@ -1,7 +1,8 @@
 -- `byte`: an LF, a full line, or one byte more.
+use mathlib.Core.Path.{refl}
 use borrow.Author.Needs.{needs}
 use Rattle.register.specs.Lent.{lists}
-use Rattle.script.specs.Tryout.{Run, run, lent}
+use Rattle.turns.specs.Turns.{Run, run, lent}
 use Rattle.script.proofs.ByteMakings.{makes-line, makes-full, makes-longer}
 use Rattle.script.proofs.bytes.byte.Statement.{statement}
 use Rattle.script.proofs.bytes.byte.Tie as tie
@@ -19,7 +20,7 @@ module _ (s : tie.Start) where
 
 returns : tie.Need-returns
 returns c =
-    let m = c .before .before .before .before .before .before .before .before .before .before .before .before .before .before .before .before .before .before in
+    let m : tie.After-end-line = search in
     let t = m .before .before .before .before .before .before .before .before .before .before .before in
     let s = begun (t .before) in
     makes-line (before s) (s .args .b) (s .pre .3) (t .if1 .taken) (m .end-line .ensures)
@@ -41,16 +42,16 @@ byte-spec =
     tie.close
     (tie.spec
     (λ c κs. search needs)
-    (λ c. search needs)
-    (λ c. search needs)
-    (λ c. search needs)
-    (λ c. search needs)
-    (λ c. search needs)
-    (λ c. search needs)
-    (λ c. search needs)
-    (λ c. search needs)
-    (λ c. search needs)
-    (λ c. search needs)
+    (λ c. refl)
+    (λ c. let h : tie.After-end-line = search in h .end-line .kept .1 .1 .0)
+    (λ c. let h : tie.After-end-line = search in h .end-line .kept .1 .1 .1 .0)
+    (λ c. let h : tie.After-end-line = search in h .end-line .kept .1 .1 .1 .1 .0)
+    (λ c. let h : tie.After-end-line = search in h .end-line .kept .1 .1 .1 .1 .1 .0)
+    (λ c. let h : tie.After-end-line = search in h .end-line .kept .1 .1 .1 .1 .1 .1 .0)
+    (λ c. let h : tie.After-end-line = search in h .end-line .kept .1 .1 .1 .1 .1 .1 .1 .0)
+    (λ c. let h : tie.After-end-line = search in h .end-line .kept .1 .1 .1 .1 .1 .1 .1 .1 .0)
+    (λ c. let h : tie.After-end-line = search in h .end-line .kept .1 .1 .1 .1 .1 .1 .1 .1 .1 .0)
+    (λ c. let h : tie.After-end-line = search in h .end-line .kept .1 .1 .1 .1 .1 .1 .1 .1 .1 .1 .0)
     returns
     (λ c κs. search needs)
     (λ c. search needs)

@@ -3,9 +3,9 @@ use mathlib.Core.List.{[]}
 use mathlib.Core.Path.{refl}
 use borrow.Author.Needs.{needs}
 use Rattle.register.specs.Lent.{lists}
-use Rattle.script.specs.Tryout.{Run, run, lent}
+use Rattle.turns.specs.Turns.{Run, run, lent}
+use Rattle.turns.proofs.Makings.{puts-none}
 use Rattle.script.proofs.ByteMakings.{makes-by-turn}
-use Rattle.script.proofs.Makings.{puts-none}
 use Rattle.script.proofs.bytes.end_line.Statement.{statement}
 use Rattle.script.proofs.bytes.end_line.Tie as tie
 
@@ -62,26 +62,26 @@ end-line-spec =
     (λ c. search needs)
     (λ c κs. search needs)
     (λ c. search needs)
-    (λ c. search needs)
-    (λ c. search needs)
+    (λ c. let h : tie.After-order-line = search in h .order-line .kept .1 .1 .0)
+    (λ c. let h : tie.After-order-line = search in h .order-line .kept .1 .1 .1 .0)
     returns
-    (λ c. search needs)
-    (λ c. search needs)
-    (λ c. search needs)
-    (λ c. search needs)
-    (λ c. search needs)
-    (λ c. search needs)
-    (λ c. search needs)
-    (λ c. search needs)
+    (λ c. let h : tie.After-col-line = search in h .col-line .kept .1 .1 .1 .1 .1 .0)
+    (λ c. let h : tie.After-col-line = search in h .col-line .kept .1 .1 .1 .1 .1 .1 .0)
+    (λ c. let h : tie.After-col-line = search in h .col-line .kept .1 .1 .1 .1 .1 .1 .1 .0)
+    (λ c. let h : tie.After-col-line = search in h .col-line .kept .1 .1 .1 .1 .1 .1 .1 .1 .0)
+    (λ c. let h : tie.After-col-line = search in h .col-line .kept .1 .1 .1 .1 .1 .1 .1 .1 .1 .0)
+    (λ c. let h : tie.After-col-line = search in h .col-line .kept .1 .1 .1 .1 .1 .1 .1 .1 .1 .1 .0)
+    (λ c. let h : tie.After-col-line = search in h .col-line .kept .1 .1 .1 .1 .1 .1 .1 .1 .1 .1 .1 .0)
+    (λ c. let h : tie.After-col-line = search in h .col-line .kept .1 .1 .1 .1 .1 .1 .1 .1 .1 .1 .1 .1 .0)
     returns-2
-    (λ c. search needs)
-    (λ c. search needs)
-    (λ c. search needs)
-    (λ c. search needs)
-    (λ c. search needs)
-    (λ c. search needs)
-    (λ c. search needs)
-    (λ c. search needs)
-    (λ c. search needs)
+    (λ c. let h : tie.After-put-line = search in h .put-line .kept .1 .1 .1 .0)
+    (λ c. let h : tie.After-put-line = search in h .put-line .kept .1 .1 .1 .1 .0)
+    (λ c. let h : tie.After-put-line = search in h .put-line .kept .1 .1 .1 .1 .1 .0)
+    (λ c. let h : tie.After-put-line = search in h .put-line .kept .1 .1 .1 .1 .1 .1 .0)
+    (λ c. let h : tie.After-put-line = search in h .put-line .kept .1 .1 .1 .1 .1 .1 .1 .0)
+    (λ c. let h : tie.After-put-line = search in h .put-line .kept .1 .1 .1 .1 .1 .1 .1 .1 .0)
+    (λ c. let h : tie.After-put-line = search in h .put-line .kept .1 .1 .1 .1 .1 .1 .1 .1 .1 .0)
+    (λ c. let h : tie.After-put-line = search in h .put-line .kept .1 .1 .1 .1 .1 .1 .1 .1 .1 .1 .0)
+    (λ c. let h : tie.After-put-line = search in h .put-line .kept .1 .1 .1 .1 .1 .1 .1 .1 .1 .1 .1 .0)
     returns-3
     returns-4)

@@ -3,9 +3,9 @@ use Prim.Native.Nat.{_-_, _<_}
 use native.Mathlib.Omega.{arith}
 use lib.ListN.{length}
 use borrow.Author.Needs.{needs}
+use Rattle.listing.proofs.Answers.{refuted, shown}
 use Rattle.register.specs.Lent.{lists}
-use Rattle.register.proofs.Answers.{refuted, shown}
-use Rattle.script.specs.Tryout.{run, lent}
+use Rattle.turns.specs.Turns.{run, lent}
 use Rattle.script.proofs.Takings.{Taken, Going, taken-none, taken-asks, taken-more, taken-stops}
 use Rattle.script.proofs.bytes.feed_ready.Statement.{statement}
 use Rattle.script.proofs.bytes.feed_ready.Tie as tie

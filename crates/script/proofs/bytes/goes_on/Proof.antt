@@ -4,8 +4,8 @@ use mathlib.Core.Path.{_≡_, sym}
 use Prim.Native.Nat.{ℕ}
 use native.Mathlib.Omega.{arith}
 use borrow.Author.Needs.{needs}
-use Rattle.register.specs.Says.{Says}
-use Rattle.register.proofs.Answers.{told-yes, told-no}
+use Rattle.listing.specs.Says.{Says}
+use Rattle.listing.proofs.Answers.{told-yes, told-no}
 use Rattle.script.proofs.bytes.goes_on.Statement.{statement}
 use Rattle.script.proofs.bytes.goes_on.Tie as tie
 

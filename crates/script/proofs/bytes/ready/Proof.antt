@@ -1,7 +1,7 @@
 -- `ready`: one test after another.
 use native.Mathlib.Omega.{arith}
 use borrow.Author.Needs.{needs}
-use Rattle.register.proofs.Answers.{told-no, refuted, shown, says-as}
+use Rattle.listing.proofs.Answers.{told-no, refuted, shown, says-as}
 use Rattle.script.proofs.bytes.ready.Statement.{statement}
 use Rattle.script.proofs.bytes.ready.Tie as tie
 

@@ -2,7 +2,7 @@
 use native.Mathlib.Omega.{arith}
 use borrow.Author.Needs.{needs}
 use borrow.Author.Tests.{leb-true, leb-false}
-use Rattle.register.proofs.Answers.{told-yes, told-no}
+use Rattle.listing.proofs.Answers.{told-yes, told-no}
 use Rattle.script.proofs.bytes.turn_right.Statement.{statement}
 use Rattle.script.proofs.bytes.turn_right.Tie as tie
 

@@ -7,8 +7,8 @@ use lib.ListN.{length}
 use borrow.Author.Needs.{needs}
 use Rattle.pattern.specs.Flat.{flat}
 use Rattle.pattern.proofs.Turning.{Columns}
-use Rattle.register.specs.Held.{Held}
-use Rattle.register.specs.Limits.{max-size}
+use Rattle.listing.specs.Held.{Held}
+use Rattle.listing.specs.Limits.{max-size}
 use Rattle.sheet.specs.Number.{got}
 use Rattle.sheet.specs.Passes.{thing, blank, Laid-out}
 use Rattle.sheet.specs.Reading.{size-test, size-at, columns-at, order-at, record-read}

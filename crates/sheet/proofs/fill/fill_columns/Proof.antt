@@ -4,7 +4,7 @@ use mathlib.Core.Path.{_≡_, refl}
 use Prim.Native.Nat.{ℕ, _-_, _≤_}
 use native.Mathlib.Omega.{arith}
 use borrow.Author.Needs.{needs}
-use Rattle.register.specs.Limits.{max-total}
+use Rattle.listing.specs.Limits.{max-total}
 use Rattle.sheet.specs.Passes.{thing}
 use Rattle.sheet.specs.Reading.{columns-at}
 use Rattle.sheet.proofs.Lefts.{left-none, left-long, left-all}

@@ -5,12 +5,12 @@ use Prim.Native.Nat.{ℕ, _-_}
 use native.Mathlib.Omega.{arith}
 use lib.ListN.{length, length-map}
 use borrow.Author.Needs.{needs}
+use Rattle.listing.proofs.Storing.{Stored, stored-none, stored-more, stored-all}
 use Rattle.sheet.specs.Passes.{thing}
 use Rattle.sheet.specs.Reading.{order-at}
 use Rattle.sheet.specs.Sheet.{firsts, seconds}
 use Rattle.sheet.proofs.Lefts.{left-none, left-long}
 use Rattle.sheet.proofs.Rereads.{Order-left, pair-known, Pair-met, pair-met}
-use Rattle.register.proofs.Storing.{Stored, stored-none, stored-more, stored-all}
 use Rattle.sheet.proofs.fill.fill_order.Statement.{statement}
 use Rattle.sheet.proofs.fill.fill_order.Tie as tie
 

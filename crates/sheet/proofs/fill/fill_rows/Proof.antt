@@ -4,12 +4,12 @@ use mathlib.Core.Path.{_≡_, refl, sym, _∙_}
 use Prim.Native.Nat.{ℕ, _+_, _-_}
 use native.Mathlib.Omega.{arith}
 use borrow.Author.Needs.{needs}
-use Rattle.register.specs.Limits.{max-size}
+use Rattle.listing.specs.Limits.{max-size}
+use Rattle.listing.proofs.Storing.{Stored, stored-none, stored-more, stored-all}
 use Rattle.sheet.specs.Passes.{thing}
 use Rattle.sheet.specs.Reading.{rows-at}
 use Rattle.sheet.proofs.Lefts.{left-none, left-long, left-all}
 use Rattle.sheet.proofs.Rereads.{Rows-left, row-known, Row-met, row-met}
-use Rattle.register.proofs.Storing.{Stored, stored-none, stored-more, stored-all}
 use Rattle.sheet.proofs.fill.fill_rows.Statement.{statement}
 use Rattle.sheet.proofs.fill.fill_rows.Tie as tie
 

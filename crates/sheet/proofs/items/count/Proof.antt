@@ -3,7 +3,7 @@ use mathlib.Core.Path.{_∙_}
 use Prim.Native.Nat.{_+_, _-_}
 use native.Mathlib.Omega.{arith}
 use borrow.Author.Needs.{needs}
-use Rattle.register.specs.Limits.{max-total}
+use Rattle.listing.specs.Limits.{max-total}
 use Rattle.sheet.proofs.Ranges.{count-as}
 use Rattle.sheet.proofs.items.count.Statement.{statement}
 use Rattle.sheet.proofs.items.count.Tie as tie

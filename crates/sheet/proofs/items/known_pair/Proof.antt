@@ -4,7 +4,7 @@ use mathlib.Core.Path.{_≡_, sym, ap, _∙_}
 use Prim.Native.Nat.{ℕ}
 use native.Mathlib.Omega.{arith}
 use lib.Dec.{ltb}
-use Rattle.register.specs.Limits.{max-size}
+use Rattle.listing.specs.Limits.{max-size}
 use Rattle.sheet.specs.Number.{got}
 use Rattle.sheet.specs.Passes.{thing, Short}
 use Rattle.sheet.specs.Reading.{member-at, pair-at}

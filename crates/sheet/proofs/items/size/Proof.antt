@@ -3,8 +3,8 @@ use mathlib.Core.Logic.{⊎-elim}
 use native.Mathlib.Omega.{arith}
 use borrow.Author.Needs.{needs}
 use borrow.Author.Tests.{ltb-true, ltb-false}
-use Rattle.register.specs.Limits.{max-size}
-use Rattle.register.proofs.Answers.{says-true, says-false}
+use Rattle.listing.specs.Limits.{max-size}
+use Rattle.listing.proofs.Answers.{says-true, says-false}
 use Rattle.sheet.specs.Reading.{size-test}
 use Rattle.sheet.proofs.Ranges.{told-passes, told-fails, told-wanting}
 use Rattle.sheet.proofs.Tests.{size-says}

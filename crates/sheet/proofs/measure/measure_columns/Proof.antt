@@ -6,11 +6,11 @@ use native.Mathlib.Omega.{arith}
 use lib.ListN.{length, length-append}
 use borrow.Author.Needs.{needs}
 use Rattle.pattern.specs.Pattern.{column}
-use Rattle.register.specs.Listing.{parts}
+use Rattle.listing.specs.Listing.{parts}
+use Rattle.text.proofs.Progress.{Measured, gone-none, gone-length, gone-all, measured-more}
 use Rattle.sheet.specs.Number.{groups}
 use Rattle.sheet.specs.Sheet.{grown, rows-bytes, column-bytes}
 use Rattle.sheet.proofs.AtPlaces.{parts-length, Column-seen, column-seen}
-use Rattle.sheet.proofs.Progress.{Measured, gone-none, gone-length, gone-all, measured-more}
 use Rattle.sheet.proofs.Sizes.{columns-few}
 use Rattle.sheet.proofs.measure.measure_columns.Statement.{statement}
 use Rattle.sheet.proofs.measure.measure_columns.Tie as tie

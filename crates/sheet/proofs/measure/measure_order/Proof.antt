@@ -6,10 +6,11 @@ use native.Mathlib.Omega.{arith}
 use lib.ListN.{length, length-append}
 use borrow.Author.Needs.{needs}
 use Rattle.pattern.specs.Places.{at}
+use Rattle.pattern.specs.Order.{pairs}
+use Rattle.pattern.proofs.Pairs.{pairs-length, pair-is}
+use Rattle.text.proofs.Progress.{Measured, gone-none, gone-length, gone-all, measured-more}
 use Rattle.sheet.specs.Number.{groups}
-use Rattle.sheet.specs.Sheet.{pairs, counted, pair-bytes}
-use Rattle.sheet.proofs.AtPlaces.{pairs-length, pair-is}
-use Rattle.sheet.proofs.Progress.{Measured, gone-none, gone-length, gone-all, measured-more}
+use Rattle.sheet.specs.Sheet.{counted, pair-bytes}
 use Rattle.sheet.proofs.Sizes.{order-few}
 use Rattle.sheet.proofs.measure.measure_order.Statement.{statement}
 use Rattle.sheet.proofs.measure.measure_order.Tie as tie

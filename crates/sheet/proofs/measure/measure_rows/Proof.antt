@@ -6,11 +6,11 @@ use native.Mathlib.Omega.{arith}
 use lib.ListN.{length}
 use borrow.Author.Needs.{needs}
 use Rattle.pattern.specs.Places.{at}
-use Rattle.register.specs.Limits.{max-size}
-use Rattle.register.proofs.Rises.{rising-few}
+use Rattle.listing.specs.Limits.{max-size}
+use Rattle.listing.proofs.Rises.{rising-few}
+use Rattle.text.proofs.Progress.{Measured, gone-none, gone-length, gone-all, measured-more}
 use Rattle.sheet.specs.Sheet.{past, row-bytes}
 use Rattle.sheet.proofs.AtPlaces.{At-row, at-row-none, row-small, at-row-more}
-use Rattle.sheet.proofs.Progress.{Measured, gone-none, gone-length, gone-all, measured-more}
 use Rattle.sheet.proofs.Sizes.{rows-few}
 use Rattle.sheet.proofs.measure.measure_rows.Statement.{statement}
 use Rattle.sheet.proofs.measure.measure_rows.Tie as tie

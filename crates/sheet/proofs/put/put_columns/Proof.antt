@@ -6,12 +6,12 @@ use native.Mathlib.Omega.{arith}
 use lib.ListN.{length}
 use borrow.Author.Needs.{needs}
 use Rattle.pattern.specs.Pattern.{column}
-use Rattle.register.specs.Listing.{parts}
+use Rattle.listing.specs.Listing.{parts}
+use Rattle.text.specs.Puts.{Puts}
+use Rattle.text.proofs.Progress.{Putting, gone-all, putting-none, first-room, second-room, putting-both, puts-length}
 use Rattle.sheet.specs.Number.{groups}
-use Rattle.sheet.specs.Puts.{Puts}
 use Rattle.sheet.specs.Sheet.{grown, rows-bytes, column-bytes, columns-bytes}
 use Rattle.sheet.proofs.AtPlaces.{parts-length, Column-seen, column-seen}
-use Rattle.sheet.proofs.Progress.{Putting, gone-all, putting-none, first-room, second-room, putting-both, puts-length}
 use Rattle.sheet.proofs.put.put_columns.Statement.{statement}
 use Rattle.sheet.proofs.put.put_columns.Tie as tie
 

@@ -6,11 +6,12 @@ use native.Mathlib.Omega.{arith}
 use lib.ListN.{length, getD}
 use borrow.Author.Needs.{needs}
 use Rattle.pattern.specs.Places.{at}
+use Rattle.pattern.specs.Order.{pairs}
+use Rattle.pattern.proofs.Pairs.{pairs-length, pair-is}
+use Rattle.text.specs.Puts.{Puts}
+use Rattle.text.proofs.Progress.{Putting, gone-all, putting-none, first-room, second-room, putting-both, puts-length}
 use Rattle.sheet.specs.Number.{groups}
-use Rattle.sheet.specs.Puts.{Puts}
-use Rattle.sheet.specs.Sheet.{pairs, counted, pair-bytes, order-bytes}
-use Rattle.sheet.proofs.AtPlaces.{pairs-length, pair-is}
-use Rattle.sheet.proofs.Progress.{Putting, gone-all, putting-none, first-room, second-room, putting-both, puts-length}
+use Rattle.sheet.specs.Sheet.{counted, pair-bytes, order-bytes}
 use Rattle.sheet.proofs.put.put_order.Statement.{statement}
 use Rattle.sheet.proofs.put.put_order.Tie as tie
 

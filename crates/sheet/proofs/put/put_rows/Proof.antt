@@ -4,11 +4,11 @@ use native.Mathlib.Omega.{arith}
 use lib.ListN.{length}
 use borrow.Author.Needs.{needs}
 use Rattle.pattern.specs.Places.{at}
-use Rattle.register.specs.Limits.{max-size}
-use Rattle.sheet.specs.Puts.{Puts}
+use Rattle.listing.specs.Limits.{max-size}
+use Rattle.text.specs.Puts.{Puts}
+use Rattle.text.proofs.Progress.{Putting, gone-all, putting-none, putting-more, putting-room, puts-length}
 use Rattle.sheet.specs.Sheet.{past, row-bytes, rows-bytes}
 use Rattle.sheet.proofs.AtPlaces.{At-row, at-row-none, row-small, at-row-more}
-use Rattle.sheet.proofs.Progress.{Putting, gone-all, putting-none, putting-more, putting-room, puts-length}
 use Rattle.sheet.proofs.put.put_rows.Statement.{statement}
 use Rattle.sheet.proofs.put.put_rows.Tie as tie
 

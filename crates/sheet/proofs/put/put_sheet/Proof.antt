@@ -3,7 +3,7 @@ use mathlib.Core.Path.{ap, _∙_}
 use native.Mathlib.Omega.{arith}
 use lib.ListN.{length}
 use borrow.Author.Needs.{needs}
-use Rattle.register.proofs.Holding.{over-length}
+use Rattle.listing.proofs.Holding.{over-length}
 use Rattle.sheet.specs.Sheet.{Record, record-in, sheet}
 use Rattle.sheet.proofs.SheetPuts.{size-room, columns-room, order-room, all-put}
 use Rattle.sheet.proofs.put.put_sheet.Statement.{statement}

@@ -6,7 +6,7 @@ use native.Mathlib.Omega.{arith}
 use lib.ListN.{length, length-append}
 use borrow.Author.Needs.{needs}
 use Rattle.pattern.specs.Flat.{flat}
-use Rattle.register.specs.Limits.{max-total}
+use Rattle.listing.specs.Limits.{max-total}
 use Rattle.sheet.specs.Reading.{column-at}
 use Rattle.sheet.specs.Sheet.{grown}
 use Rattle.sheet.proofs.Gauges.{Gauged, gauged-got, gauged-bad, Partly, partly-none, partly-more, partly-fault, partly-all}

@@ -6,7 +6,7 @@ use native.Mathlib.Omega.{arith}
 use borrow.Author.Count.{below-none, below-more}
 use borrow.Author.Needs.{needs}
 use Rattle.pattern.specs.Places.{at as stands}
-use Rattle.register.proofs.Answers.{told-yes, told-no}
+use Rattle.listing.proofs.Answers.{told-yes, told-no}
 use Rattle.sheet.specs.Passes.{thing}
 use Rattle.sheet.specs.Reading.{order-at}
 use Rattle.sheet.specs.Sheet.{seconds}

@@ -5,7 +5,7 @@ use Prim.Native.Nat.{ℕ, _-_}
 use native.Mathlib.Omega.{arith}
 use borrow.Author.Needs.{needs}
 use Rattle.pattern.specs.Places.{at as stands}
-use Rattle.register.proofs.Answers.{told-yes, told-no}
+use Rattle.listing.proofs.Answers.{told-yes, told-no}
 use Rattle.register.proofs.Orders.{Entered, entered-none, entered-twice, entered-more, entered-all}
 use Rattle.sheet.specs.Passes.{thing}
 use Rattle.sheet.specs.Reading.{order-at}

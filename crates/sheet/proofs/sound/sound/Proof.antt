@@ -2,7 +2,7 @@
 use mathlib.Core.Path.{refl}
 use lib.ListN.{getD-replicate}
 use borrow.Author.Needs.{needs}
-use Rattle.register.proofs.Answers.{told-no, refuted, shown}
+use Rattle.listing.proofs.Answers.{told-no, refuted, shown}
 use Rattle.register.proofs.Orders.{placed-below}
 use Rattle.sheet.proofs.Formed.{columns-formed, order-below}
 use Rattle.sheet.proofs.Tops.{tops-sound}

@@ -9,8 +9,8 @@ use lib.Seq.{take-all}
 use borrow.Author.Needs.{needs}
 use Rattle.pattern.specs.Places.{at as stands}
 use Rattle.pattern.specs.Series.{greatest}
+use Rattle.listing.specs.Limits.{max-size}
 use Rattle.register.proofs.Orders.{greatest-on}
-use Rattle.register.specs.Limits.{max-size}
 use Rattle.sheet.specs.Passes.{thing}
 use Rattle.sheet.specs.Reading.{rows-at}
 use Rattle.sheet.proofs.Lefts.{left-none, left-long, left-all}

@@ -9,8 +9,8 @@ use Rattle.pattern.specs.Pattern.{column}
 use Rattle.pattern.specs.Places.{at as stands}
 use Rattle.pattern.specs.Rising.{Rising}
 use Rattle.pattern.specs.Series.{greatest}
-use Rattle.register.specs.Limits.{max-size}
-use Rattle.register.proofs.Stores.{stored-more}
+use Rattle.listing.specs.Limits.{max-size}
+use Rattle.listing.proofs.Stores.{stored-more}
 use Rattle.sheet.specs.Passes.{thing}
 use Rattle.sheet.specs.Reading.{columns-at}
 use Rattle.sheet.proofs.Formed.{columns-formed}

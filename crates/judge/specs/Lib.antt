@@ -1,0 +1,6 @@
+-- The judgment on a column and its new rows, which changes nothing.
+pub mod Call
+pub mod Sets
+pub mod Peel
+pub mod Reach
+pub mod Judge

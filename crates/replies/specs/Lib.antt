@@ -1,0 +1,3 @@
+-- The tryout's reply lines.
+pub mod Replies
+pub mod Shown

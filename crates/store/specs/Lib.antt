@@ -1,0 +1,2 @@
+-- A column exchanged in both listings.
+pub mod Store

@@ -1,0 +1,20 @@
+-- Text and bytes: plain decimals, numbers after single spaces, things one after another, bytes put at a place.
+pub mod Decimals
+pub mod SpacedLaws
+pub mod Spellings
+pub mod Readings
+pub mod Spells
+pub mod Speaking
+pub mod Stands
+pub mod Beginnings
+pub mod Begun
+pub mod Scans
+pub mod Hearing
+pub mod Keeping
+pub mod DigitsPut
+pub mod Parts
+pub mod HeardNumbers
+pub mod Kept
+pub mod SeriesLaws
+pub mod Progress
+pub mod Determined
