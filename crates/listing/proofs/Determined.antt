@@ -38,10 +38,10 @@ same e f = e ∙ sym f
 pub wide-determined : Determined wide-kinds.ps wide-kinds.r wide.Pre wide.Post
 wide-determined κs a h x y ws vs p q = (same p q, refl)
 
-pub part-determined : Determined-as part-kinds.ps part-kinds.r part.Pre part.Post (λ κs r. r .now)
+pub part-determined : Determined-as part-kinds.ps part-kinds.r part.Pre part.Post (λ κs r. r .now) (λ κs a ws. ws)
 part-determined κs a h x y ws vs p q = (same p q, refl)
 
-pub first-determined : Determined-as first-kinds.ps first-kinds.r first.Pre first.Post (λ κs r. r .now)
+pub first-determined : Determined-as first-kinds.ps first-kinds.r first.Pre first.Post (λ κs r. r .now) (λ κs a ws. ws)
 first-determined κs a h x y ws vs p q = (same p q, refl)
 
 pub copy-determined : Determined copy-kinds.ps copy-kinds.r copy.Pre copy.Post

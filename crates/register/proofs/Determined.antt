@@ -1,22 +1,19 @@
 -- No two replies satisfy the statement of a function for one input. Rests on specs/Checks.antt, specs/Lent.antt, `pattern`
 -- and `listing`.
-use mathlib.Core.Bool.{Bool}
 use mathlib.Core.List.{List, [], _∷_}
 use mathlib.Core.Path.{_≡_, refl, sym, ap, _∙_}
-use Prim.Native.Nat.{ℕ, _<_}
+use Prim.Native.Nat.{ℕ, _≤_, _<_}
 use native.Mathlib.Omega.{arith}
-use lib.ListN.{getD}
-use lib.Seq.{ext-getD}
-use Rattle.pattern.specs.Places.{at}
+use lib.ListN.{getD, take}
+use lib.Seq.{ext-getD, getD-take, length-take-le}
 use Rattle.pattern.proofs.Rungs.{unless-one}
-use Rattle.listing.specs.Contract.{Determined}
+use Rattle.listing.specs.Contract.{Determined, Determined-as}
+use Rattle.listing.specs.Limits.{max-size}
 use Rattle.listing.specs.Listing.{between}
 use Rattle.listing.specs.Look.{Spans, Looked}
-use Rattle.listing.specs.Says.{Says}
 use Rattle.listing.proofs.Answers.{says-same}
 use Rattle.listing.proofs.Determined.{same, spans-one}
 use Rattle.register.specs.Checks.{First-fault}
-use Rattle.register.specs.Takes.{Takes}
 use Rattle.register.specs.Lent.{Lists, Fresh}
 use Rattle.register.specs.Marks.{unmarked}
 use Rattle.register.specs.Order.{Placed}
@@ -27,10 +24,16 @@ use Rattle.register.specs.declared.Checked.the-variants.{Sound, Refused}
 use Rattle.register.specs.declared.Refusal.{Refusal}
 use Rattle.register.specs.declared.Refusal.the-variants.{Size, ShortList, MalformedListing, ListingsDiffer, OrderUnsound, ColumnNumber, NewColumn, NoRoom, SheetCut, SheetNumber, SheetRange, SheetSurplus}
 use Rattle.register.specs.declared.marks.Marks.{Marks}
+use Rattle.register.proofs.check.check.Kinds as checks-kinds
+use Rattle.register.proofs.check.check.Reads as checks
 use Rattle.register.proofs.marks.Marks.none.Kinds as none-kinds
 use Rattle.register.proofs.marks.Marks.none.Reads as none
+use Rattle.register.proofs.places.place_all.Kinds as place-all-kinds
+use Rattle.register.proofs.places.place_all.Reads as place-all
 use Rattle.register.proofs.places.top_place.Kinds as top-place-kinds
 use Rattle.register.proofs.places.top_place.Reads as top-place
+use Rattle.register.proofs.room.takes.Kinds as takes-kinds
+use Rattle.register.proofs.room.takes.Reads as takes
 
 -- ---- The reply of a number
 
@@ -93,9 +96,6 @@ fault-one m l = unless-one (λ _. unless-one (λ _. unless-one (λ _. unless-one
 pub check-determined : (m : ℕ) (l : Lists) (r r′ : Checked) → First-fault m l (fault r) → First-fault m l (fault r′) → r ≡ r′
 check-determined m l r r′ f f′ = sym (reply-back r) ∙ ap reply-of (fault-one m l (fault r) (fault r′) f f′) ∙ reply-back r′
 
-pub takes-determined : (m total : ℕ) (l : Lists) (a b : Bool) → Says a (Takes m total l) → Says b (Takes m total l) → a ≡ b
-takes-determined m total l = says-same
-
 -- A start has one outcome.
 pub started-one : (m : ℕ) (l : Lists) (o o′ : Started) → Starts-with m l o → Starts-with m l o′ → o ≡ o′
 started-one m l = unless-one (λ _. unless-one (λ _. unless-one (λ _. unless-one (λ _ o o′. same))))
@@ -123,6 +123,20 @@ none-determined κs a h x y ws vs p q = (same p q, refl)
 pub top-place-determined : Determined top-place-kinds.ps top-place-kinds.r top-place.Pre top-place.Post
 top-place-determined κs a h x y ws vs p q = (same p q, refl)
 
+pub takes-determined : Determined takes-kinds.ps takes-kinds.r takes.Pre takes.Post
+takes-determined κs a h x y ws vs p q = (says-same x y p q, refl)
+
+-- The reply is told; what the scratch lists hold after a refusal is not.
+pub checks-determined : Determined-as checks-kinds.ps checks-kinds.r checks.Pre checks.Post (λ κs x. x) (λ κs a ws. tt {0})
+checks-determined κs a h x y ws vs p q = (check-determined _ _ x y (p .0) (q .0), refl)
+
 -- The places of the numbers below m are told; what the scratch list holds past them is not.
-pub place-all-determined : (m : ℕ) (f : ℕ → ℕ) (l l′ : List ℕ) → Placed m f l → Placed m f l′ → (x : ℕ) → x < m → at l x ≡ at l′ x
-place-all-determined m f l l′ p q x h = same (p .stand x h) (q .stand x h)
+placed-one : (m : ℕ) (f : ℕ → ℕ) (l l′ : List ℕ) → m ≤ max-size → Placed m f l → Placed m f l′ → take m l ≡ take m l′
+placed-one m f l l′ few p q =
+    ext-getD 0 (take m l) (take m l′) (same (length-take-le m l (omega (arith, p .long))) (length-take-le m l′ (omega (arith, q .long))))
+    (λ x h.
+    let u : x < m = omega (arith, length-take-le m l (omega (arith, p .long))) in
+    getD-take m l x 0 u ∙ same (p .stand x u) (q .stand x u) ∙ sym (getD-take m l′ x 0 u))
+
+pub place-all-determined : Determined-as place-all-kinds.ps place-all-kinds.r place-all.Pre place-all.Post (λ κs x. x) (λ κs a ws. take (a .0) (ws .1 .1 .0))
+place-all-determined κs a h x y ws vs p q = (refl, placed-one _ _ _ _ (h .0) p q)

@@ -1,5 +1,4 @@
 -- No two outcomes satisfy the contract of a function for the crates above, as its source states it. Rests on `listing` and `text`.
-use mathlib.Core.Path.{_≡_}
 use Rattle.listing.specs.Contract.{Determined}
 use Rattle.text.proofs.Determined.{puts-one}
 use Rattle.replies.proofs.bad_line.Kinds as bad-line-kinds

@@ -1,4 +1,5 @@
--- No two outcomes satisfy the contract of a function for the crates above. Rests on specs/Store.antt, `pattern` and `listing`.
+-- No two outcomes satisfy the contract of a function for the crates above, as its source states it. Rests on specs/Store.antt and
+-- `listing`.
 use mathlib.Core.Bool.{Bool, true, false}
 use mathlib.Core.List.{List}
 use mathlib.Core.Path.{_≡_, refl}
@@ -6,15 +7,15 @@ use Prim.Native.Nat.{ℕ}
 use native.Mathlib.Omega.{arith}
 use lib.Dec.{ltb}
 use borrow.Author.Tests.{ltb-true, ltb-false}
-use Rattle.pattern.specs.Turned.{turned}
-use Rattle.listing.specs.Contract.{Determined}
-use Rattle.listing.specs.Held.{Held}
+use Rattle.listing.specs.Contract.{Determined, Determined-as}
 use Rattle.listing.proofs.Determined.{same, held-one}
-use Rattle.store.specs.Store.{Cut, exchanged}
+use Rattle.store.specs.Store.{Cut}
 use Rattle.store.proofs.join.below.Kinds as below-kinds
 use Rattle.store.proofs.join.below.Reads as below
 use Rattle.store.proofs.join.join.Kinds as join-kinds
 use Rattle.store.proofs.join.join.Reads as join
+use Rattle.store.proofs.store.store.Kinds as store-kinds
+use Rattle.store.proofs.store.store.Reads as store
 
 -- A list is cut in one place.
 pub cut-one : {c n n′ : ℕ} {l : List ℕ} → Cut c n l → Cut c n′ l → n ≡ n′
@@ -33,8 +34,9 @@ pub join-determined : Determined join-kinds.ps join-kinds.r join.Pre join.Post
 join-determined κs a h x y ws vs p q = (same (p .0) (q .0), λ i. (tt, (tt, (same (p .1) (q .1) i, tt))))
 
 -- Both listings are told; what the lent scratch list holds afterwards is not.
-pub store-determined : (m : ℕ) (P : List (List ℕ)) (c r : ℕ) (rows : List ℕ) (cs cr rs rc cs₁ cr₁ rs₁ rc₁ cs₂ cr₂ rs₂ rc₂ : List ℕ)
-    → Held (exchanged m P c r rows) cs cr cs₁ cr₁ → Held (turned m (exchanged m P c r rows)) rs rc rs₁ rc₁
-    → Held (exchanged m P c r rows) cs cr cs₂ cr₂ → Held (turned m (exchanged m P c r rows)) rs rc rs₂ rc₂
-    → ((cs₁ ≡ cs₂) × (cr₁ ≡ cr₂)) × ((rs₁ ≡ rs₂) × (rc₁ ≡ rc₂))
-store-determined m P c r rows cs cr rs rc cs₁ cr₁ rs₁ rc₁ cs₂ cr₂ rs₂ rc₂ f g f′ g′ = (held-one _ cs cr cs₁ cr₁ cs₂ cr₂ f f′, held-one _ rs rc rs₁ rc₁ rs₂ rc₂ g g′)
+pub store-determined : Determined-as store-kinds.ps store-kinds.r store.Pre store.Post {C = λ κs a. List ℕ × List ℕ × List ℕ × List ℕ} (λ κs x. x)
+    (λ κs a ws. (ws .1 .0, ws .1 .1 .0, ws .1 .1 .1 .0, ws .1 .1 .1 .1 .0))
+store-determined κs a h x y ws vs p q =
+    let columns = held-one _ _ _ _ _ _ _ (p .0) (q .0) in
+    let rows = held-one _ _ _ _ _ _ _ (p .1) (q .1) in
+    (refl, λ i. (columns .0 i, columns .1 i, rows .0 i, rows .1 i))
