@@ -1,7 +1,7 @@
 -- The reply to a write and to a read is read off what C has: no refusal goes by 0. Rests on `pattern`, `register` and `sheet`.
 use mathlib.Core.Bool.{cond}
 use mathlib.Core.List.{List}
-use mathlib.Core.Path.{_≡_, refl, sym, ap, ap₂, _∙_, subst}
+use mathlib.Core.Path.{_≡_, refl, sym, ap₂, _∙_, subst}
 use Prim.Native.Nat.{ℕ}
 use lib.Dec.{T, eqb}
 use borrow.Author.Tests.{ne-eqb}

@@ -103,9 +103,9 @@ singular-answered {a} {row-places} {col-places} {eta′} e k =
     let t = told-singular (subst (Judges a row-places col-places eta′) e k) in
     (Singular, t .0, outcome-same (ap said e) refl (t .1))
 
--- The eta list has no part in what may be judged.
-pub judged-without : {a : Call} → Judgeable a → (eta : List ℕ) → Judgeable (call (a .size) (a .lists) (a .column) (a .new-rows) eta)
-judged-without J eta = record { sound = J .sound; column-below = J .column-below; new-rise = J .new-rise }
+-- It may be judged with any eta list.
+pub judgeable-with : {a : Call} → Judgeable a → (eta : List ℕ) → Judgeable (call (a .size) (a .lists) (a .column) (a .new-rows) eta)
+judgeable-with J eta = record { sound = J .sound; column-below = J .column-below; new-rise = J .new-rise }
 
 module _ {a : Call} (J : Judgeable a) where
   abbrev m : ℕ

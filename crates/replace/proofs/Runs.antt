@@ -1,27 +1,19 @@
 -- After a right reply a sound register is sound again, and so after any number of calls. Rests on Spikes.antt, `pattern`,
 -- `listing`, `register` and `judge`.
-use mathlib.Core.List.{List, []}
-use mathlib.Core.Path.{_≡_, refl, sym, _∙_, subst, subst₂}
-use Prim.Native.Nat.{ℕ, _≤_, _<_}
-use native.Mathlib.Omega.{arith}
-use lib.ListN.{length}
-use Rattle.pattern.specs.Flat.{flat, start-of, starts-of}
-use Rattle.pattern.specs.Order.{Sound, Sound-order}
+use mathlib.Core.List.{List}
+use mathlib.Core.Path.{sym, _∙_, subst}
+use Prim.Native.Nat.{ℕ}
+use Rattle.pattern.specs.Flat.{start-of}
+use Rattle.pattern.specs.Order.{Sound-order}
 use Rattle.pattern.specs.Pattern.{Entry}
 use Rattle.pattern.specs.Places.{at}
-use Rattle.pattern.specs.Turned.{turned, Same-entries}
 use Rattle.pattern.specs.Verdict.{cleared-columns, Verdict, Singular, Permuted, Elimination, Judged}
 use Rattle.pattern.proofs.Clearing.{spiked-columns-rise, cleared-columns-rise, cleared-is}
-use Rattle.pattern.proofs.Pairing.{sound-same}
 use Rattle.pattern.proofs.Rungs.{unless-both}
-use Rattle.pattern.proofs.Tallies.{turned-total}
-use Rattle.pattern.proofs.Turning.{Columns, turned-columns, turned-same}
+use Rattle.pattern.proofs.Turning.{Columns}
 use Rattle.pattern.proofs.Verdicts.{elimination-sound}
-use Rattle.listing.specs.Held.{Held, over}
-use Rattle.listing.specs.Limits.{max-size, max-total}
-use Rattle.listing.specs.Listing.{parts, Good}
 use Rattle.register.specs.Checks.{Fits}
-use Rattle.register.specs.Lent.{Lists, columns, rows, Sound-lists}
+use Rattle.register.specs.Lent.{Lists, Sound-lists}
 use Rattle.register.proofs.Holdings.{holding-sound}
 use Rattle.judge.specs.Call.{Call, call, asked}
 use Rattle.judge.specs.Judge.{Judgeable}

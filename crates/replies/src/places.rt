@@ -2,7 +2,6 @@
 use text::write::put_byte;
 use text::write::put_number;
 use text::write::put_spaced;
-ghost use mathlib.Core.List.{[]};
 ghost use Prim.Native.Nat.{_+_, _≤_};
 ghost use lib.ListN.{length};
 ghost use Rattle.pattern.specs.Order.{pairs};

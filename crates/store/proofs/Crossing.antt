@@ -2,12 +2,11 @@
 -- change. Rests on specs/Store.antt, `pattern` and `listing`.
 use mathlib.Core.List.{List, [], _∷_}
 use mathlib.Core.Logic.{inl, inr, ⊎-elim}
-use mathlib.Core.Path.{_≡_, refl, sym, subst}
+use mathlib.Core.Path.{refl, sym, subst}
 use Prim.Native.Nat.{ℕ, _≤_, _<_}
 use native.Mathlib.Omega.{arith}
 use lib.Dec.{T}
-use Rattle.pattern.specs.Pattern.{has, column, Entry}
-use Rattle.pattern.specs.Rising.{Rising}
+use Rattle.pattern.specs.Pattern.{has, Entry}
 use Rattle.pattern.specs.Turned.{Same-entries}
 use Rattle.pattern.proofs.Rises.{rising-none, rising-front}
 use Rattle.pattern.proofs.Tests.{has-cases, has-here}

@@ -14,7 +14,7 @@ use Rattle.pattern.proofs.Rises.{rising-less}
 use Rattle.pattern.proofs.Tests.{choose-same, choose-other, has-among}
 use Rattle.listing.specs.Listing.{between, part, parts, Good}
 use Rattle.listing.proofs.Between.{between-none, between-one, between-length, between-at, between-between}
-use Rattle.listing.proofs.Listings.{part-is, good-within, good-columns}
+use Rattle.listing.proofs.Listings.{part-is, good-within}
 use Rattle.store.specs.Store.{without, left, Cut, Piece}
 use Rattle.store.proofs.Without.{without-struck, without-append, without-none}
 

@@ -5,6 +5,7 @@ use mathlib.Core.Path.{_≡_, sym, ap, ap₂, _∙_, subst}
 use Prim.Native.Nat.{ℕ, _+_}
 use lib.Dec.{leb}
 use Rattle.pattern.proofs.Rungs.{unless-one}
+use Rattle.listing.proofs.Determined.{same}
 use Rattle.text.proofs.Speaking.{speaks-one}
 use Rattle.register.specs.Lent.{Lists}
 use Rattle.register.proofs.Determined.{started-one}
@@ -21,7 +22,7 @@ abbrev pub One : {A : Type 0} → (A → Type 0) → Type 0
 One {A} P = (a b : A) → P a → P b → a ≡ b
 
 pub equal-one : {A : Type 0} {c : A} → One (λ a. a ≡ c)
-equal-one a b e f = e ∙ sym f
+equal-one a b = same
 
 -- A line in its turn, where different `x` have different numbers.
 in-turn-one : {A : Type 0} {word : List ℕ} {numbers : A → List ℕ} {Does : A → After → Type 0} {r : Run} → ((x y : A) → numbers x ≡ numbers y → x ≡ y)

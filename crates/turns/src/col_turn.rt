@@ -5,6 +5,7 @@ use crate::Turn;
 use crate::steps::bad;
 use crate::steps::next_line;
 use crate::steps::refuse;
+use listing::lists::copy;
 use register::Checked;
 use register::Register;
 use text::lines::Heard;
@@ -14,7 +15,7 @@ ghost use mathlib.Core.List.{List};
 ghost use mathlib.Core.Path.{_≡_};
 ghost use Prim.Native.Nat.{ℕ, _+_, _≤_, _<_};
 ghost use lib.ListN.{length};
-ghost use Rattle.listing.specs.Held.{over, put};
+ghost use Rattle.listing.specs.Held.{over};
 ghost use Rattle.listing.specs.Limits.{max-size, max-total};
 ghost use Rattle.text.specs.Text.{max-numbers, max-count};
 ghost use Rattle.register.specs.Takes.{Takes};
@@ -41,18 +42,6 @@ fn col_count(line: &[u8], column: usize) -> usize
     }
 }
 
-// Numbers go to a list, from a place on.
-fn copy(numbers: &[u16], list: &mut [u16], place: usize)
-    requires { ⌜ place + length (now numbers) ≤ length (now list) ⌝ }
-    ensures { λ _. ⌜ now (list .exit) ≡ put place (now (numbers .entry)) (now (list .entry)) ⌝ }
-{
-    let mut i = 0;
-    while i < numbers.len() {
-        list[place + i] = numbers[i];
-        i += 1;
-    }
-}
-
 // The rows of a column go behind those before them, where they fit; replies whether they do.
 fn store(fits: bool, column: usize, rows: &[u16], cs: &mut [u16], cr: &mut [u16]) -> bool
     requires { ⌜ (column + 1 < length (now cs)) × (length (now rows) ≤ max-numbers) × (max-total ≤ length (now cr)) ⌝ }
@@ -68,7 +57,7 @@ fn store(fits: bool, column: usize, rows: &[u16], cs: &mut [u16], cr: &mut [u16]
     if Register::MAX_TOTAL < sum {
         return false;
     }
-    copy(rows, cr, total);
+    copy(rows, total, cr);
     cs[column + 1] = sum as u16;
     true
 }

@@ -1,5 +1,5 @@
 -- `scrollbobbin_read_sheet`: the reader's reply, told as two numbers.
-use mathlib.Core.Path.{_≡_, sym, ap, _∙_}
+use mathlib.Core.Path.{sym, ap, _∙_}
 use borrow.Author.Needs.{needs}
 use Rattle.sheet.specs.Reply.{filled}
 use Rattle.sheet.specs.declared.Filled.{Filled}

@@ -1,5 +1,5 @@
 -- `scrollbobbin_write_sheet`: the writer's reply, told as two numbers.
-use mathlib.Core.Path.{_≡_, sym, ap, _∙_}
+use mathlib.Core.Path.{sym, ap, _∙_}
 use borrow.Author.Needs.{needs}
 use Rattle.sheet.specs.Reply.{written}
 use Rattle.sheet.specs.declared.Written.{Written}

@@ -1,6 +1,6 @@
 -- `row_left`: from place k on there is a row that has no place.
 use mathlib.Core.Logic.{_≢_}
-use mathlib.Core.Path.{_≡_, sym, ap, _∙_}
+use mathlib.Core.Path.{sym, ap, _∙_}
 use Prim.Native.Nat.{ℕ, _-_, _≤_, _<_}
 use native.Mathlib.Omega.{arith}
 use borrow.Author.Needs.{needs}

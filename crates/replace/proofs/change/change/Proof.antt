@@ -8,7 +8,7 @@ use Rattle.pattern.specs.Places.{at, place}
 use Rattle.register.specs.Lent.{lists}
 use Rattle.register.proofs.Orders.{placed-below}
 use Rattle.judge.specs.Call.{Call, call}
-use Rattle.replace.proofs.Changes.{told-permuted, told-elimination, singular-answered, judged-without, permuted-answered, cleared-answered}
+use Rattle.replace.proofs.Changes.{told-permuted, told-elimination, singular-answered, judgeable-with, permuted-answered, cleared-answered}
 use Rattle.replace.proofs.change.change.Statement.{statement}
 use Rattle.replace.proofs.change.change.Tie as tie
 
@@ -53,7 +53,7 @@ permute-requires c κs =
     let j = permuted e in
     let s = begun (read j) in
     let k = told-permuted (e .enum-told2 .given .1) (j .judge .ensures .0) in
-    ((judged-without (s .pre .0 .0) [], s .pre .1 .0), (j .judge .ensures .1 .1, placed-below (k .rows-placed), placed-below (k .cols-placed)))
+    ((judgeable-with (s .pre .0 .0) [], s .pre .1 .0), (j .judge .ensures .1 .1, placed-below (k .rows-placed), placed-below (k .cols-placed)))
 
 clear-requires : tie.Need-clear-requires
 clear-requires c κs =
@@ -62,7 +62,7 @@ clear-requires c κs =
     let w = read j in
     let s = begun w in
     let k = told-elimination (e .judgment .given .1) (j .judge .ensures .0) in
-    ((judged-without (s .pre .0 .0) [], s .pre .1 .0), (k .right .not-singular, (p-is s (w .wide .ensures), j .judge .ensures .1 .1, j .judge .ensures .1 .0)))
+    ((judgeable-with (s .pre .0 .0) [], s .pre .1 .0), (k .right .not-singular, (p-is s (w .wide .ensures), j .judge .ensures .1 .1, j .judge .ensures .1 .0)))
 
 returns : tie.Need-returns
 returns c =

@@ -1,17 +1,13 @@
+-- `piece`: all of the part, or the one place of the number in it.
 use mathlib.Core.List.{List}
 use mathlib.Core.Path.{_≡_, refl, sym, subst}
 use Prim.Native.Nat.{ℕ, _+_, _-_}
 use native.Mathlib.Omega.{arith}
 use borrow.Author.Needs.{needs}
 use Rattle.pattern.specs.Places.{at}
-use Rattle.listing.proofs.listing.part.Reads as part-reads
-use Rattle.listing.proofs.wide.wide.Reads as wide-reads
 use Rattle.store.specs.Store.{Cut}
 use Rattle.store.proofs.store.piece.Statement.{statement}
 use Rattle.store.proofs.store.piece.Tie as tie
-use Rattle.store.proofs.store.piece.Reads as reads
-use Rattle.store.proofs.store.piece.Lts as lts
-use Rattle.store.proofs.join.below.Reads as below-reads
 
 mul-wide : tie.Need-mul-wide
 mul-wide c = search needs

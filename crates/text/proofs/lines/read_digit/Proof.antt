@@ -3,7 +3,7 @@ use mathlib.Core.Path.{sym, ap, _∙_}
 use Prim.Native.Nat.{ℕ, _+_, _*_}
 use native.Mathlib.Omega.{arith}
 use borrow.Author.Needs.{needs}
-use Rattle.text.specs.Spelling.{Spelt, inside, with-digit, stand}
+use Rattle.text.specs.Spelling.{Spelt, with-digit, stand}
 use Rattle.text.specs.declared.lines.Stand.the-variants.{Inside}
 use Rattle.text.proofs.Spellings.{number-more, zero-wrong, great-wrong}
 use Rattle.text.proofs.Stands.{at-word, at-gap, at-inside, at-wrong}
