@@ -1,4 +1,4 @@
--- How a listing, and a register, stands in lent lists that are longer than it needs. Rests on `pattern`.
+-- How a listing stands in lent lists that are longer than it needs. Rests on `pattern`.
 use mathlib.Core.List.{List, _++_}
 use mathlib.Core.Path.{_≡_}
 use Prim.Native.Nat.{ℕ}

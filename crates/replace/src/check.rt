@@ -1,4 +1,5 @@
-// The checks 1 to 8 of a replacement.
+// The build paper's checks 1 to 8 of a replacement, in the order of their numbers. The lists are those of the columns (cs, cr: starts and
+// rows), of the rows (rs, rc: starts and columns) and of the order (or, oc: rows and columns).
 use listing::listing::rising;
 use listing::wide::wide;
 use register::Checked;
