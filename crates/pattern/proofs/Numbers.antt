@@ -38,13 +38,16 @@ numbers_are f (suc n) r = (
   where
     here : r ≡ n → (b : Bool) → T b → T (has (cond b (n ∷ []) []) r)
     here e true t = has_here n r [] (sym e)
+    here e false t = elim t [ ]
 
     only : f n ≡ true → (n ≡ r) ⊎ ⊥ → (r < suc n) × T (f r)
     only e (inl z) = (omega arith, subst T (sym e ∙ ap f z) tt)
+    only e (inr x') = elim x' [ ]
 
     there : (b : Bool) → f n ≡ b → (T (has (numbers f n) r) → (r < n) × T (f r)) → T (has (numbers f n) r) ⊎ T (has (cond b (n ∷ []) []) r) → (r < suc n) × T (f r)
     there b e g (inl t) = let u = g t in (omega (arith, u.0), u.1)
     there true e g (inr t) = only e (has_cases n r [] t)
+    there false e g (inr t) = elim t [ ]
 
 -- Tests that agree below `n` give the same.
 pub numbers_same : (f g : ℕ → Bool) (n : ℕ) → ((i : ℕ) → i < n → f i ≡ g i) → numbers f n ≡ numbers g n

@@ -1,1 +1,3 @@
 // The mathematics of sparse patterns: definitions in specs/, theorems in proofs/. There is no code here.
+
+#![tactic(auto)]
