@@ -15,15 +15,15 @@ module _ {P Q : Type 0} where
   told_no q = record { yes = λ e. let z : ◌≡◌ {A = ℕ} 0 1 = cc in absurd (omega arith); no = λ e. q }
 
   -- In the two arms of `if !test(..)`.
-  pub refuted : {r : Bool} → Told r P Q → not r ≡ true → Q
-  refuted {r} s e = s.no (not-true r e)
+  pub refuted : {r : Bool} → Told r P Q → r ≡ false → Q
+  refuted s e = s.no e
 
-  pub shown : {r : Bool} → Told r P Q → not r ≡ false → P
-  shown {r} s e = s.yes (not-false r e)
+  pub shown : {r : Bool} → Told r P Q → r ≡ true → P
+  shown s e = s.yes e
 
   -- The opposite answer.
   pub told_not : {r : Bool} → Told r P Q → Told (not r) Q P
-  told_not s = record { yes = refuted s; no = shown s }
+  told_not {r} s = record { yes = λ e. refuted s (not-true r e); no = λ e. shown s (not-false r e) }
 
 -- An answer in other words.
 pub told_as : {P P' Q Q' : Type 0} {r : Bool} → (P → P') → (Q → Q') → Told r P Q → Told r P' Q'

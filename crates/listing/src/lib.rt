@@ -1,4 +1,7 @@
 // One listing in lent lists, of columns or of rows: its parts, its form, and the listing turned.
+
+#![tactic(auto)]
+
 pub mod listing;
 pub mod lists;
 pub mod look;

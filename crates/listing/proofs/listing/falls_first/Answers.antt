@@ -1,0 +1,52 @@
+-- `falls_first`: the four cases of the definition.
+use mathlib.Core.Path.{◌≡◌, sym, ◌∙◌}
+use Prim.Native.Nat.{ℕ, ◌<◌}
+use native.Mathlib.Omega.{arith}
+use lib.ListN.{length}
+use Rattle.pattern.specs.Places.{at}
+use Rattle.listing.specs.Falls.{fall, fall_at_start}
+use Rattle.listing.proofs.Falling.{fall_yes, fall_no, start_first, start_some, start_none}
+use Rattle.listing.proofs.listing.falls_first.Goals as goal
+use Rattle.listing.proofs.listing.falls_first.Goals.{Else-wide-from}
+
+pub returns-then-from-eq0 : goal.returns-then-from-eq0
+returns-then-from-eq0 c =
+    sym (start_first c.args.starts.now c.args.entries.now c.args.k (omega arith))
+
+pub returns-then-wide-from : goal.returns-then-wide-from
+returns-then-wide-from c =
+    sym (start_none c.args.starts.now c.args.entries.now c.args.k (omega arith))
+
+-- The part has a number, and is not the first that has.
+module _ (c : Else-wide-from) where
+  abbrev from : ℕ
+  from = at c.args.starts.now c.args.k
+
+  read : c.wide-from.result ≡ from
+  read = c.wide-from.ensures
+
+  in_list : from < length c.args.entries.now
+  in_list = omega (arith, c.requires.1)
+
+  is_start : fall_at_start c.args.starts.now c.args.entries.now c.args.k ≡ fall c.args.entries.now from
+  is_start = start_some c.args.starts.now c.args.entries.now c.args.k (omega arith)
+
+pub returns-then-entries-from : goal.returns-then-entries-from
+returns-then-entries-from c =
+    sym (is_start (goal.at.returns-then-entries-from c).Else-wide-from ∙ fall_no c.args.entries.now (from (goal.at.returns-then-entries-from c).Else-wide-from) (rw (read (goal.at.returns-then-entries-from c).Else-wide-from) at c.if-entries-from.true))
+
+pub returns : goal.returns
+returns c =
+    sym (is_start (goal.at.returns c).Else-wide-from ∙ fall_yes c.args.entries.now (from (goal.at.returns c).Else-wide-from) (omega arith) (rw (read (goal.at.returns c).Else-wide-from) at c.if-entries-from.false))
+
+pub offset_bounds-entries-from : goal.offset_bounds-entries-from
+offset_bounds-entries-from c = omega (arith, in_list (goal.at.offset_bounds-entries-from c).Else-wide-from)
+
+pub bounds-entries-from : goal.bounds-entries-from
+bounds-entries-from c = omega (arith, in_list (goal.at.bounds-entries-from c).Else-wide-from)
+
+pub offset_bounds-entries-from-2 : goal.offset_bounds-entries-from-2
+offset_bounds-entries-from-2 c = omega (arith, in_list (goal.at.offset_bounds-entries-from-2 c).Else-wide-from)
+
+pub bounds-entries-from-2 : goal.bounds-entries-from-2
+bounds-entries-from-2 c = omega (arith, in_list (goal.at.bounds-entries-from-2 c).Else-wide-from)
