@@ -1,6 +1,6 @@
 -- The build paper's checks, in the order of their numbers: 1 to 5 of a register, and 1 to 8 of a replacement.
 -- Rests on Lent.antt and `pattern`.
-use Rattle.std.specs.Prelude.{List, ◌≡◌, ℕ, ◌-◌, ◌≤◌, length}
+use Rattle.std.specs.Prelude.{List, ◌≡◌, ℕ, ◌≤◌, length}
 use Rattle.pattern.specs.Ladder.{Unless}
 use Rattle.listing.specs.Limits.{Sized, max_total}
 use Rattle.register.specs.Lent.{Lists, Long, Formed, ListingsAgree, OrderSound}

@@ -1,4 +1,7 @@
 // A register of one square sparse pattern, kept in six lists that the caller lends.
+
+#![tactic(auto)]
+
 pub mod check;
 pub mod marks;
 mod order;

@@ -1,0 +1,12 @@
+-- `set_out`: the cursors of the rows before r stand at their starts.
+use mathlib.Core.Path.{◌≡◌}
+use Prim.Native.Nat.{ℕ, ◌-◌, ◌≤◌, ◌<◌}
+use lib.ListN.{length}
+use Rattle.pattern.specs.Places.{at}
+use Rattle.register.proofs.same.set_out.Given as goal
+
+abbrev pub invariant-loop-r : goal.invariant-loop-r
+invariant-loop-r l = (l.r ≤ l.m) × (length l.next ≡ 1000) × ((x : ℕ) → x < l.r → at l.next x ≡ at l.starts x)
+
+abbrev pub decreases-loop-r : goal.decreases-loop-r
+decreases-loop-r l = l.m - l.r
