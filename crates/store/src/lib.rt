@@ -1,4 +1,7 @@
 // A column exchanged in both listings.
+
+#![tactic(auto)]
+
 pub mod join;
 mod moves;
 pub mod store;

@@ -1,0 +1,57 @@
+-- `insert`: the later entries go up, their starts are raised, and the rows are copied in between.
+use mathlib.Core.List.{List}
+use mathlib.Core.Path.{◌≡◌, refl}
+use Prim.Native.Nat.{ℕ, ◌+◌, ◌≤◌}
+use native.Mathlib.Omega.{arith}
+use lib.ListN.{length}
+use Rattle.pattern.specs.Flat.{start_of}
+use Rattle.pattern.specs.Places.{at}
+use Rattle.listing.specs.Listing.{parts}
+use Rattle.listing.proofs.Listings.{starts_rise}
+use Rattle.store.specs.Store.{filled}
+use Rattle.store.proofs.Fillings.{filled_total, filled_room, filled_held}
+use Rattle.store.proofs.store.insert.Goals as goal
+use Rattle.store.proofs.store.insert.Goals.{After-wide-to}
+
+-- The places, once they have been read.
+module _ (c : After-wide-to) where
+  abbrev m : ℕ
+  m = c.args.m
+
+  abbrev cs : List ℕ
+  cs = c.args.cs.now
+
+  abbrev new : List ℕ
+  new = c.args.rows.now
+
+  begins : c.wide-from.result ≡ at cs c.args.c
+  begins = c.wide-from.ensures
+
+  ends : c.wide-to.result ≡ at cs m
+  ends = c.wide-to.ensures
+
+  rise : (k : ℕ) → k ≤ m → at cs k ≤ at cs m
+  rise k h = starts_rise c.requires.good.0.formed.starts_right k m h (omega arith)
+
+  total : start_of (filled m (parts m cs c.args.cr.now) c.args.c new) m ≡ at cs m + length new
+  total = filled_total c.requires.good.0 new c.requires.good.1 c.requires.good.2
+
+  fits : at cs m + length new ≤ length c.args.cr.now
+  fits = omega (arith, total, c.requires.m_bound.1)
+
+pub move_up-requires : goal.move_up-requires
+move_up-requires c =
+    omega (arith, begins (goal.at.move_up-requires c).After-wide-to, ends (goal.at.move_up-requires c).After-wide-to, rise (goal.at.move_up-requires c).After-wide-to c.args.c (omega (arith, c.requires.good.1)), fits (goal.at.move_up-requires c).After-wide-to)
+
+pub raise-requires : goal.raise-requires
+raise-requires c =
+    (omega (arith, c.requires.good.1), c.requires.good.0.room.starts_long, λ k h. omega (arith, rise (goal.at.raise-requires c).After-wide-to k h, total (goal.at.raise-requires c).After-wide-to, c.requires.m_bound.0))
+
+pub copy-requires : goal.copy-requires
+copy-requires c =
+    filled_room c.requires.good.0 (new (goal.at.copy-requires c).After-wide-to) c.requires.good.1 c.requires.good.2 (begins (goal.at.copy-requires c).After-wide-to) (ends (goal.at.copy-requires c).After-wide-to) refl c.requires.m_bound.1 c.move_up.ensures
+
+pub returns : goal.returns
+returns c =
+    filled_held c.requires.good.0 (new (goal.at.returns c).After-wide-to) c.requires.good.1 c.requires.good.2 (begins (goal.at.returns c).After-wide-to) (ends (goal.at.returns c).After-wide-to) refl c.requires.m_bound.1 c.move_up.ensures c.raise.ensures
+    c.copy.ensures

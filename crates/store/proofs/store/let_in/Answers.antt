@@ -1,0 +1,59 @@
+-- `let_in`: the place of c is looked up in part k, the later entries go up and c is stored, and the starts are raised.
+use mathlib.Core.List.{List}
+use mathlib.Core.Path.{◌≡◌, sym, ap, ◌∙◌, subst}
+use Prim.Native.Nat.{ℕ, ◌+◌, ◌-◌, ◌≤◌}
+use native.Mathlib.Omega.{arith}
+use lib.ListN.{set}
+use Rattle.pattern.specs.Places.{at}
+use Rattle.listing.specs.Held.{put}
+use Rattle.listing.specs.Listing.{between, part}
+use Rattle.listing.proofs.Between.{between_length}
+use Rattle.listing.proofs.Puts.{put_front}
+use Rattle.store.specs.Store.{Cut}
+use Rattle.store.proofs.store.let_in.Goals as goal
+use Rattle.store.proofs.store.let_in.Goals.{After-below}
+
+-- The place, once it has been found.
+module _ (c : After-below) where
+  abbrev starts : List ℕ
+  starts = c.args.starts.now
+
+  abbrev entries : List ℕ
+  entries = c.args.entries.now
+
+  abbrev k : ℕ
+  k = c.args.k
+
+  begins : c.wide.result ≡ at starts k
+  begins = c.wide.ensures
+
+  cut : Cut c.args.c c.below.result (part starts entries k)
+  cut = rw c.part.ensures at c.below.ensures
+
+  upto : at starts k + c.below.result ≤ at starts (k + 1)
+  upto =
+      let W = c.requires.c_lt_max_size.3 in
+      omega (arith, cut.within, between_length (at starts k) (at starts (k + 1)) entries W.in_list, W.no_fall)
+
+pub move_up-requires : goal.move_up-requires
+move_up-requires c =
+    omega (arith, begins (goal.at.move_up-requires c).After-below, upto (goal.at.move_up-requires c).After-below, c.requires)
+
+pub bounds-entries-q : goal.bounds-entries-q
+bounds-entries-q c =
+    omega (arith, c.move_up.auto.list, begins (goal.at.bounds-entries-q c).After-below, upto (goal.at.bounds-entries-q c).After-below, c.requires)
+
+pub returns : goal.returns
+returns c =
+    let a = c.args in
+    let q : ℕ = c.wide.result + c.below.result in
+    let x : q - at (starts (goal.at.returns c).After-below) (k (goal.at.returns c).After-below) ≡ c.below.result = omega (arith, begins (goal.at.returns c).After-below) in
+    let n : q + (a.i + 1) ≡ q + a.i + 1 = omega arith in
+    record {
+      from = omega (arith, begins (goal.at.returns c).After-below);
+      cut = subst (λ (n : ℕ). Cut a.c n (part (starts (goal.at.returns c).After-below) (entries (goal.at.returns c).After-below) (k (goal.at.returns c).After-below))) (sym x) (cut (goal.at.returns c).After-below);
+      entries_now =
+          ap (λ (l : List ℕ). set l (q + a.i) a.c) (c.move_up.ensures ∙ ap (λ (n : ℕ). put n (between q a.end (entries (goal.at.returns c).After-below)) (entries (goal.at.returns c).After-below)) n)
+          ∙ put_front (q + a.i) (between q a.end (entries (goal.at.returns c).After-below)) (entries (goal.at.returns c).After-below) a.c (omega (arith, begins (goal.at.returns c).After-below, upto (goal.at.returns c).After-below, c.requires));
+      raised = c.raise.ensures;
+    }
