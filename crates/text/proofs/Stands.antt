@@ -1,16 +1,12 @@
 -- What is spelt, by how a reader stands. Rests on specs/Spelling.antt.
-use mathlib.Core.List.{List, [], ◌∷◌}
-use mathlib.Core.Logic.{⊎_elim}
+use mathlib.Core.List.{List}
 use mathlib.Core.Path.{◌≡◌, refl}
 use Prim.Native.Nat.{ℕ}
 use native.Mathlib.Omega.{arith}
 use lib.ListN.{length}
-use types.Run.{OneOf}
-use denote.Enum.Declared.{tag_of}
 use Rattle.text.specs.Spelling.{Spelt, empty, gap, inside, wrong, stand}
 use Rattle.text.specs.declared.lines.Stand.{Stand}
 use Rattle.text.specs.declared.lines.Stand.TheVariants.{Word, Gap, Inside, Wrong}
-use Rattle.text.specs.contracts.lines.Stand.{the_type}
 
 pub at_word : (x : Spelt) → Word ≡ stand x → x ≡ empty
 at_word empty e = refl
@@ -37,8 +33,8 @@ at_wrong (inside l v) e = cc
 at_wrong wrong e = refl
 
 -- What holds wherever the reader does not stand inside a number, in the other arm of a test for that.
-pub elsewhere : (P : Stand → Type 0) (s : Stand) → P Word → ((n : ℕ) → P (Gap n)) → P Wrong → OneOf (0 ∷ 1 ∷ 3 ∷ []) (tag_of the_type s) → P s
+pub elsewhere : (P : Stand → Type 0) (s : Stand) → P Word → ((n : ℕ) → P (Gap n)) → P Wrong → ((n v : ℕ) → ¬ (s ≡ Inside n v)) → P s
 elsewhere P Word w g f k = w
 elsewhere P (Gap n) w g f k = g n
-elsewhere P (Inside n v) w g f k = absurd (⊎_elim (λ e. omega arith) (⊎_elim (λ e. omega arith) (λ e. omega arith)) k)
+elsewhere P (Inside n v) w g f k = absurd (k n v refl)
 elsewhere P Wrong w g f k = f

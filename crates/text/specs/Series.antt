@@ -1,5 +1,5 @@
 -- Things one after another, as bytes. Rests on nothing.
-use Rattle.std.specs.Prelude.{List, [], ◌∷◌, ◌++◌, ℕ, ◌+◌}
+use Rattle.std.specs.Prelude.{List, [], ◌∷◌, ◌++◌, ℕ}
 
 -- Things one after another. Each is written by `one`, which knows a number: `s` at the first thing, and from one thing to the
 -- next what `after` makes of it.

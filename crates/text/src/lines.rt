@@ -16,7 +16,7 @@ pub enum Heard {
 
 // How a reader of the line stands: at the end of the word, at a space behind so many numbers, or inside a number that is behind so
 // many; or no numbers begin as it has read.
-#[derive(Drop)]
+#[derive(Clone, Copy)]
 pub enum Stand {
     Word,
     Gap { count: usize },

@@ -4,12 +4,10 @@ use mathlib.Core.Path.{refl, sym, ap, ◌∙◌}
 use Prim.Native.Nat.{ℕ}
 use native.Mathlib.Omega.{arith}
 use lib.ListN.{set}
-use borrow.Author.Rules.{rules}
 use Rattle.listing.proofs.Puts.{put_none, put_more}
-use Rattle.text.proofs.write.put_byte.Statement.{statement}
-use Rattle.text.proofs.write.put_byte.Tie as tie
+use Rattle.text.proofs.write.put_byte.Goals as goal
 
-returns : tie.Need-returns
+pub returns : goal.returns
 returns c =
     let a = c.args in
     record {
@@ -18,6 +16,3 @@ returns c =
           ap (λ (l : List ℕ). set l a.place a.b) (sym (put_none a.place a.out.now))
           ∙ put_more a.place [] a.out.now a.place a.b (omega arith) (omega arith);
     }
-
-pub put_byte_spec : {M : Type 1} → statement M
-put_byte_spec = tie.close (tie.spec (λ c. search rules) (λ c. search rules) (λ c. search rules) returns)
