@@ -1,4 +1,7 @@
 // The sheet of a register: written from its six lists, and read back into them.
+
+#![tactic(auto)]
+
 mod fill;
 mod items;
 mod measure;

@@ -1,0 +1,65 @@
+-- `put_columns`: the columns before column c are put.
+use mathlib.Core.List.{List, [], ◌++◌}
+use mathlib.Core.Path.{◌≡◌, sym, ap}
+use Prim.Native.Nat.{ℕ, ◌<◌}
+use native.Mathlib.Omega.{arith}
+use lib.ListN.{length}
+use Rattle.pattern.specs.Pattern.{column}
+use Rattle.listing.specs.Listing.{parts}
+use Rattle.text.specs.Puts.{Puts}
+use Rattle.text.proofs.Progress.{gone_all, putting_none, first_room, second_room, putting_both, puts_length}
+use Rattle.sheet.specs.Number.{groups}
+use Rattle.sheet.specs.Sheet.{rows_bytes, column_bytes, columns_bytes}
+use Rattle.sheet.proofs.AtPlaces.{parts_length, ColumnSeen, column_seen}
+use Rattle.sheet.proofs.put.put_columns.Goals as goal
+use Rattle.sheet.proofs.put.put_columns.Goals.{After-look-rows, After-loop-c}
+
+-- The rows that were handed over are those of the column.
+module _ (c : After-look-rows) where
+  abbrev columns : List (List ℕ)
+  columns = parts c.args.size c.args.cs.now c.args.cr.now
+
+  abbrev rows : List ℕ
+  rows = c.look-rows.result.now
+
+  abbrev s : ℕ
+  s = c.loop-c.invariant.0
+
+  seen : ColumnSeen c.requires.1 c.loop-c.c rows
+  seen = column_seen c.requires.1 c.loop-c.c c.loop-c-test.true c.requires.0 c.look-rows.ensures
+
+  within : c.loop-c.c < length columns
+  within = omega (arith, c.loop-c-test.true, parts_length c.args.size c.args.cs.now c.args.cr.now)
+
+  two : column_bytes s (column columns c.loop-c.c) ≡ groups (length rows) ++ rows_bytes rows
+  two = ap (column_bytes s) (sym seen.is_column)
+
+pub put-at-requires : goal.put-at-requires
+put-at-requires c =
+    (omega (arith, (seen (goal.at.put-at-requires c).After-look-rows).few), first_room c.loop-c.invariant.1 [] (within (goal.at.put-at-requires c).After-look-rows) c.requires.2 (groups (length (rows (goal.at.put-at-requires c).After-look-rows))) (rows_bytes (rows (goal.at.put-at-requires c).After-look-rows)) (two (goal.at.put-at-requires c).After-look-rows))
+
+pub put_rows-at-requires : goal.put_rows-at-requires
+put_rows-at-requires c =
+    ((seen (goal.at.put_rows-at-requires c).After-look-rows).rises, second_room c.loop-c.invariant.1 [] (within (goal.at.put_rows-at-requires c).After-look-rows) c.requires.2 (groups (length (rows (goal.at.put_rows-at-requires c).After-look-rows))) (rows_bytes (rows (goal.at.put_rows-at-requires c).After-look-rows)) (two (goal.at.put_rows-at-requires c).After-look-rows) c.put-at.ensures)
+
+pub loop-c-preserved : goal.loop-c-preserved
+loop-c-preserved c =
+    (_, putting_both c.loop-c.invariant.1 [] (within (goal.at.loop-c-preserved c).After-look-rows) c.requires.2 (groups (length (rows (goal.at.loop-c-preserved c).After-look-rows))) (rows_bytes (rows (goal.at.loop-c-preserved c).After-look-rows)) (two (goal.at.loop-c-preserved c).After-look-rows) c.put-at.ensures c.put_rows-at.ensures)
+
+-- All are put.
+all : (c : After-loop-c)
+    → Puts c.args.place (columns_bytes (parts c.args.size c.args.cs.now c.args.cr.now)) c.args.bytes.now c.loop-c.at c.loop-c.bytes
+all c =
+    gone_all c.loop-c.invariant.1 (omega (arith, c.loop-c-test.false, parts_length c.args.size c.args.cs.now c.args.cr.now))
+
+pub shape_of-bytes : goal.shape_of-bytes
+shape_of-bytes c = puts_length c.requires.2 (all (goal.at.shape_of-bytes c).After-loop-c)
+
+pub loop-c-init : goal.loop-c-init
+loop-c-init c = (0, putting_none)
+
+pub overflow_cast-rows : goal.overflow_cast-rows
+overflow_cast-rows c = omega (arith, (seen (goal.at.overflow_cast-rows c).After-look-rows).few)
+
+pub returns : goal.returns
+returns c = all (goal.at.returns c).After-loop-c

@@ -1,0 +1,13 @@
+-- `put_rows`: the rows before place k are put.
+use Prim.Native.Nat.{◌-◌}
+use lib.ListN.{length}
+use Rattle.text.proofs.Progress.{Putting}
+use Rattle.sheet.specs.Sheet.{past, row_bytes}
+use Rattle.sheet.proofs.AtPlaces.{AtRow}
+use Rattle.sheet.proofs.put.put_rows.Given as goal
+
+abbrev pub invariant-loop-k : goal.invariant-loop-k
+invariant-loop-k l = AtRow l.rows l.k l.least × Putting row_bytes past l.rows l.k l.least l.place l.at l.initial.bytes l.bytes
+
+abbrev pub decreases-loop-k : goal.decreases-loop-k
+decreases-loop-k l = length l.rows - l.k
