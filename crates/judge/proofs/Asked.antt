@@ -5,7 +5,6 @@ use native.Mathlib.Omega.{arith}
 use Prim.Native.Nat.{◌<◌}
 use lib.Seq.{get_or-take}
 use Rattle.pattern.specs.Verdict.{size, Taken, col_at, c_place}
-use Rattle.pattern.specs.Pattern.{column}
 use Rattle.pattern.specs.Places.{at, place}
 use Rattle.pattern.proofs.Turning.{Columns}
 use Rattle.pattern.proofs.Finding.{place_at}

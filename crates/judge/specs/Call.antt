@@ -1,5 +1,5 @@
 -- What a call asks. Rests on `pattern` and `register`.
-use Rattle.std.specs.Prelude.{List, ℕ, ◌-◌, take}
+use Rattle.std.specs.Prelude.{List, ℕ, take}
 use Rattle.pattern.specs.Verdict.{Replacement}
 use Rattle.register.specs.Lent.{Lists, columns}
 

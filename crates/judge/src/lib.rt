@@ -1,4 +1,7 @@
 // The judgment on a column and its new rows, which changes no list of the register.
+
+#![tactic(auto)]
+
 pub mod judge;
 mod marks;
 mod peel;

@@ -1,0 +1,263 @@
+-- `peel`: the first n places of the new order have been taken, and no column of the window before old place t is available.
+use mathlib.Core.Bool.{true, false}
+use mathlib.Core.List.{List}
+use mathlib.Core.Logic.{◌≢◌}
+use mathlib.Core.Path.{◌≡◌, refl, sym, ap, ◌∙◌, subst}
+use Prim.Native.Nat.{ℕ, ◌+◌, ◌-◌, ◌≤◌, ◌<◌}
+use native.Mathlib.Omega.{arith}
+use lib.Dec.{T}
+use borrow.Author.Tests.{eq-eqb, ne_eqb}
+use lib.ListN.{set}
+use Rattle.pattern.specs.Pattern.{has, column}
+use Rattle.pattern.specs.Places.{at}
+use Rattle.pattern.proofs.Rises.{rising_below}
+use Rattle.pattern.proofs.Turning.{row_below}
+use Rattle.listing.specs.Limits.{max_size}
+use Rattle.listing.proofs.Answers.{told_yes, told_no}
+use Rattle.listing.proofs.Listings.{good_within}
+use Rattle.register.proofs.Orders.{placed_below}
+use Rattle.judge.specs.Peel.{spiked, spiked_part, SomeLeft, IsLeft, Counted, Searched}
+use Rattle.judge.proofs.PeelCounts.{searched_on}
+use Rattle.judge.proofs.NewRows.{new_told}
+use Rattle.judge.proofs.Peels.{Window, Peeling, peeling_some, peeling_more, old_stands}
+use Rattle.judge.proofs.SpikedParts.{spiked_is, spiked_readable}
+use Rattle.judge.proofs.Striking.{RowLeft, strikes, hits_from, left_struck, c_some, left_lowered}
+use Rattle.judge.proofs.Windows.{Given, Ends, ends, p_in, given_window, peeling_start, peeling_stuck, peeling_all}
+use Rattle.judge.proofs.peel.peel.Goals as goal
+use Rattle.judge.proofs.peel.peel.Goals.{After-column_left-x, After-next_one-t, After-part, After-strike-t, After-wide-y, After-window_end-end, At-loop-n, Start, then-is_new, else-is_new}
+
+-- What is given.
+module _ (s : Start) where
+  abbrev S : List (List ℕ)
+  S = spiked s.args.m s.args.cs.now s.args.cr.now s.args.c s.args.new.now
+
+  abbrev row : ℕ → ℕ
+  row = at s.args.or.now
+
+  abbrev col : ℕ → ℕ
+  col = at s.args.oc.now
+
+  given : Given s.args.m s.args.cs.now s.args.cr.now s.args.rs.now s.args.rc.now s.args.or.now s.args.oc.now s.args.c s.args.new.now s.args.p
+  given =
+      record {
+        columns = s.requires.good.0;
+        rows = s.requires.good.1;
+        same = s.requires.good.2;
+        order = s.requires.m_in_bounds.2;
+        inside = s.requires.c_lt_m.0;
+        rise = s.requires.c_lt_m.1;
+        c_place = s.requires.c_lt_m.2;
+      }
+
+  small : s.args.m ≤ max_size
+  small = s.requires.good.0.small
+
+  p_low : s.args.p < s.args.m
+  p_low = (p_in s.args.or.now s.args.oc.now given).0
+
+  -- The place of a new row is one.
+  new_placed : (x : ℕ) → T (has s.args.new.now x) → at s.args.places.now x < s.args.m
+  new_placed x u = placed_below s.requires.counts_len.2 x (rising_below s.requires.c_lt_m.1 x u)
+
+pub window_end-end-requires : goal.window_end-end-requires
+window_end-end-requires c =
+    (omega (arith, p_low (goal.at.window_end-end-requires c).Start, small (goal.at.window_end-end-requires c).Start), λ k h. omega (arith, c.requires.c_lt_m.1.below k h, small (goal.at.window_end-end-requires c).Start), λ x u. omega (arith, new_placed (goal.at.window_end-end-requires c).Start x u, small (goal.at.window_end-end-requires c).Start))
+
+-- The window's end is known.
+module _ (c : After-window_end-end) where
+  abbrev end : ℕ
+  end = c.window_end-end.result
+
+  ending : Ends c.args.m (row (goal.at.After-window_end-end c).Start) c.args.new.now c.args.p end
+  ending = ends (p_low (goal.at.After-window_end-end c).Start) c.requires.c_lt_m.1 c.requires.counts_len.2 c.window_end-end.ensures
+
+  window : Window c.args.m (S (goal.at.After-window_end-end c).Start) (row (goal.at.After-window_end-end c).Start) (col (goal.at.After-window_end-end c).Start) end
+  window = given_window c.args.or.now c.args.oc.now (given (goal.at.After-window_end-end c).Start) ending
+
+  end_small : end ≤ max_size
+  end_small = omega (arith, ending.within, small (goal.at.After-window_end-end c).Start)
+
+pub free-requires : goal.free-requires
+free-requires c =
+    let D = ending (goal.at.free-requires c).After-window_end-end in
+    (omega (arith, D.after), omega (arith, D.within, c.requires.m_in_bounds.0), λ t h. omega (arith, c.requires.m_in_bounds.2.rows.below t (omega (arith, D.within)), small (goal.at.free-requires c).Start), c.requires.counts_len.2.long)
+
+pub flag-requires : goal.flag-requires
+flag-requires c =
+    (λ k h. omega (arith, c.requires.c_lt_m.1.below k h, small (goal.at.flag-requires c).Start), c.free.ensures.long)
+
+pub count_left-requires : goal.count_left-requires
+count_left-requires c =
+    let D = ending (goal.at.count_left-requires c).After-window_end-end in record { p_le_end = (omega (arith, D.after), end_small (goal.at.count_left-requires c).After-window_end-end, omega (arith, D.within, c.requires.m_in_bounds.1), c.requires.counts_len.0); by_index = λ t h. spiked_readable c.requires.good.0 c.requires.c_lt_m.0 c.requires.c_lt_m.1 (col (goal.at.count_left-requires c).Start t) (c.requires.m_in_bounds.2.cols.below t (omega (arith, D.within))) }
+
+pub loop-n-init : goal.loop-n-init
+loop-n-init c =
+    peeling_start c.args.or.now c.args.oc.now (given (goal.at.loop-n-init c).Start) (ending (goal.at.loop-n-init c).After-window_end-end) c.requires.counts_len.2 c.free.ensures c.flag.ensures c.requires.counts_len.1 c.count_left.ensures
+
+pub next_one-t-requires : goal.next_one-t-requires
+next_one-t-requires c = omega (arith, c.loop-n.invariant.within, end_small (goal.at.next_one-t-requires c).After-window_end-end)
+
+-- A turn: the place `t` has been found.
+module _ (c : After-next_one-t) where
+  searched : Searched c.loop-n.counts c.args.p c.next_one-t.result
+  searched = searched_on c.loop-n.invariant.past c.next_one-t.ensures.searched
+
+pub returns-then-t-end : goal.returns-then-t-end
+returns-then-t-end c =
+    let none = subst (Searched c.loop-n.counts c.args.p) c.if-t-end.true (searched (goal.at.returns-then-t-end c).After-next_one-t) in
+    record { told = told_no (peeling_stuck c.args.or.now c.args.oc.now (given (goal.at.returns-then-t-end c).Start) (ending (goal.at.returns-then-t-end c).After-window_end-end) c.loop-n.invariant (omega arith) none); places_len = (c.loop-n.invariant.placed.long, c.loop-n.invariant.moved.long, c.loop-n.invariant.left.long) }
+
+-- Its column and the place are in range.
+module _ (c : After-wide-y) where
+  before_end : c.next_one-t.result < end (goal.at.After-wide-y c).After-window_end-end
+  before_end = omega (arith, c.next_one-t.ensures.within)
+
+  col_in : c.wide-y.result < c.args.m
+  col_in = omega (arith, c.wide-y.ensures, c.requires.m_in_bounds.2.cols.below c.next_one-t.result (omega (arith, before_end, (ending (goal.at.After-wide-y c).After-window_end-end).within)))
+
+  -- Its rows.
+  abbrev rows : List ℕ
+  rows = spiked_part c.args.cs.now c.args.cr.now c.args.c c.args.new.now c.wide-y.result
+
+  rows_are : column (S (goal.at.After-wide-y c).Start) (col (goal.at.After-wide-y c).Start c.next_one-t.result) ≡ rows
+  rows_are = ap (column (S (goal.at.After-wide-y c).Start)) (sym c.wide-y.ensures) ∙ spiked_is c.requires.good.0 c.requires.c_lt_m.0 c.requires.c_lt_m.1 c.wide-y.result col_in
+
+  one_left : at c.loop-n.counts c.next_one-t.result ≡ 1
+  one_left = c.next_one-t.ensures.there before_end
+
+  some_left : SomeLeft c.loop-n.places rows
+  some_left =
+      subst (SomeLeft c.loop-n.places) rows_are
+      (peeling_some (window (goal.at.After-wide-y c).After-window_end-end) c.loop-n.invariant c.next_one-t.result (searched (goal.at.After-wide-y c).After-next_one-t).after before_end one_left)
+
+pub offset_bounds-oc-t : goal.offset_bounds-oc-t
+offset_bounds-oc-t c = omega (arith, c.next_one-t.ensures.within, end_small (goal.at.offset_bounds-oc-t c).After-window_end-end)
+
+pub bounds-oc-t : goal.bounds-oc-t
+bounds-oc-t c =
+    omega (arith, c.next_one-t.ensures.within, (ending (goal.at.bounds-oc-t c).After-window_end-end).within, c.requires.m_in_bounds.1)
+
+pub column_left-x-requires : goal.column_left-x-requires
+column_left-x-requires c =
+    let G = c.requires.good.0 in
+    (omega (arith, col_in (goal.at.column_left-x-requires c).After-wide-y, G.room.starts_long), good_within G c.wide-y.result (col_in (goal.at.column_left-x-requires c).After-wide-y), some_left (goal.at.column_left-x-requires c).After-wide-y)
+
+-- Its one row without a place has been found.
+module _ (c : After-column_left-x) where
+  abbrev x : ℕ
+  x = c.column_left-x.result
+
+  is_left : IsLeft c.loop-n.places (column (S (goal.at.After-column_left-x c).Start) (col (goal.at.After-column_left-x c).Start c.next_one-t.result)) x
+  is_left = subst (λ (r : List ℕ). IsLeft c.loop-n.places r x) (sym (rows_are (goal.at.After-column_left-x c).After-wide-y)) c.column_left-x.ensures
+
+  row_in : x < c.args.m
+  row_in = row_below (window (goal.at.After-column_left-x c).After-window_end-end).columns x (col (goal.at.After-column_left-x c).Start c.next_one-t.result) is_left.there
+
+  row_small : x < 1000
+  row_small = omega (arith, row_in, small (goal.at.After-column_left-x c).Start)
+
+  -- Once the counts are right again, one more place has been taken.
+  abbrev Right : List ℕ → Type 0
+  Right = Counted (λ u. column (S (goal.at.After-column_left-x c).Start) (col (goal.at.After-column_left-x c).Start u)) (set c.loop-n.places x c.loop-n.n) c.args.p (end (goal.at.After-column_left-x c).After-window_end-end)
+
+  one_more : {counts' : List ℕ} {t' : ℕ} → Right counts' → Searched counts' c.args.p t' → t' ≤ end (goal.at.After-column_left-x c).After-window_end-end
+      → Peeling c.args.m (S (goal.at.After-column_left-x c).Start) (row (goal.at.After-column_left-x c).Start) (col (goal.at.After-column_left-x c).Start) c.args.new.now c.args.p (end (goal.at.After-column_left-x c).After-window_end-end) (c.loop-n.n + 1) (set c.loop-n.places x c.loop-n.n) (set c.loop-n.old c.wide-y.result c.loop-n.n) counts' t'
+  one_more =
+      peeling_more (window (goal.at.After-column_left-x c).After-window_end-end) c.loop-n.invariant c.next_one-t.result (searched (goal.at.After-column_left-x c).After-next_one-t).after (before_end (goal.at.After-column_left-x c).After-wide-y) (one_left (goal.at.After-column_left-x c).After-wide-y) x is_left.there is_left.nowhere
+      (omega arith) (searched (goal.at.After-column_left-x c).After-next_one-t) c.wide-y.result c.wide-y.ensures
+
+pub part-requires : goal.part-requires
+part-requires c =
+    let G = c.requires.good.1 in
+    (omega (arith, row_in (goal.at.part-requires c).After-column_left-x, G.room.starts_long), good_within G (x (goal.at.part-requires c).After-column_left-x) (row_in (goal.at.part-requires c).After-column_left-x))
+
+-- Its columns are at hand.
+module _ (c : After-part) where
+  row_left : RowLeft c.args.m (S (goal.at.After-part c).Start) c.args.rs.now c.args.rc.now c.args.oc.now c.args.p (end (goal.at.After-part c).After-window_end-end) c.loop-n.places c.loop-n.counts c.loop-n.old c.part.result.now (x (goal.at.After-part c).After-column_left-x)
+  row_left =
+      record {
+        long = c.loop-n.invariant.placed.long;
+        counted = c.loop-n.invariant.left;
+        inside = row_in (goal.at.After-part c).After-column_left-x;
+        nowhere = (is_left (goal.at.After-part c).After-column_left-x).nowhere;
+        is = c.part.ensures;
+        stands = old_stands (window (goal.at.After-part c).After-window_end-end) c.loop-n.invariant (x (goal.at.After-part c).After-column_left-x) (is_left (goal.at.After-part c).After-column_left-x).nowhere;
+      }
+
+pub strike-t-requires : goal.strike-t-requires
+strike-t-requires c =
+    strikes c.args.or.now c.args.oc.now (given (goal.at.strike-t-requires c).Start) (ending (goal.at.strike-t-requires c).After-window_end-end) (row_left (goal.at.strike-t-requires c).After-part)
+
+-- They have been struck but c, and it is known whether the new column has the row.
+module _ (c : After-strike-t) where
+  abbrev counts : List ℕ
+  counts = c.strike-t.new.counts
+
+  place_low : c.loop-n.n < max_size
+  place_low = omega (arith, end_small (goal.at.After-strike-t c).After-window_end-end)
+
+  has_new : at c.loop-n.places (x (goal.at.After-strike-t c).After-column_left-x) ≡ 1001 → has c.args.new.now (x (goal.at.After-strike-t c).After-column_left-x) ≡ true
+  has_new e = new_told c.args.new.now c.loop-n.places (x (goal.at.After-strike-t c).After-column_left-x) c.loop-n.invariant.told (row_in (goal.at.After-strike-t c).After-column_left-x) (is_left (goal.at.After-strike-t c).After-column_left-x).nowhere true (eq-eqb _ _ e)
+
+  has_not : at c.loop-n.places (x (goal.at.After-strike-t c).After-column_left-x) ≢ 1001 → has c.args.new.now (x (goal.at.After-strike-t c).After-column_left-x) ≡ false
+  has_not n = new_told c.args.new.now c.loop-n.places (x (goal.at.After-strike-t c).After-column_left-x) c.loop-n.invariant.told (row_in (goal.at.After-strike-t c).After-column_left-x) (is_left (goal.at.After-strike-t c).After-column_left-x).nowhere false (ne_eqb _ _ n)
+
+  right_struck : has c.args.new.now (x (goal.at.After-strike-t c).After-column_left-x) ≡ false → Right (goal.at.After-strike-t c).After-column_left-x counts
+  right_struck = left_struck c.args.or.now c.args.oc.now (given (goal.at.After-strike-t c).Start) (ending (goal.at.After-strike-t c).After-window_end-end) (row_left (goal.at.After-strike-t c).After-part) place_low c.strike-t.ensures.0
+
+  right_lowered : has c.args.new.now (x (goal.at.After-strike-t c).After-column_left-x) ≡ true → Right (goal.at.After-strike-t c).After-column_left-x (set counts c.args.p (at counts c.args.p - 1))
+  right_lowered e =
+      left_lowered c.args.or.now c.args.oc.now (given (goal.at.After-strike-t c).Start) (ending (goal.at.After-strike-t c).After-window_end-end) (row_left (goal.at.After-strike-t c).After-part) place_low c.strike-t.ensures.0 e (at counts c.args.p - 1) refl
+
+  some_lower : has c.args.new.now (x (goal.at.After-strike-t c).After-column_left-x) ≡ true → 0 < at counts c.args.p
+  some_lower = c_some c.args.or.now c.args.oc.now (given (goal.at.After-strike-t c).Start) (ending (goal.at.After-strike-t c).After-window_end-end) (row_left (goal.at.After-strike-t c).After-part) place_low c.strike-t.ensures.0
+
+  searched_still : Searched counts c.args.p c.strike-t.result
+  searched_still =
+      c.strike-t.ensures.2 c.args.p (hits_from c.args.or.now c.args.oc.now (given (goal.at.After-strike-t c).Start) (ending (goal.at.After-strike-t c).After-window_end-end) (row_left (goal.at.After-strike-t c).After-part)) (searched (goal.at.After-strike-t c).After-next_one-t)
+
+pub lower-t-requires : goal.lower-t-requires
+lower-t-requires c =
+    (omega (arith, p_low (goal.at.lower-t-requires c).Start, small (goal.at.lower-t-requires c).Start), c.strike-t.ensures.0.long, some_lower (goal.at.lower-t-requires c).After-strike-t (has_new (goal.at.lower-t-requires c).After-strike-t c.if-is_new.true))
+
+pub loop-n-preserved : goal.loop-n-preserved
+loop-n-preserved c =
+    let within = c.next_one-t.ensures.within in
+    let before = c.strike-t.ensures.1 in
+    elim c.if-is_new.branch [
+      | then-is_new w ↦
+          let e = w.lower-t.ensures in
+          one_more (goal.at.loop-n-preserved c).After-column_left-x (rw (w.counts-is, e.0) (right_lowered (goal.at.loop-n-preserved c).After-strike-t (has_new (goal.at.loop-n-preserved c).After-strike-t w.if-is_new.true))) (rw (w.counts-is, w.t-is) (e.2 c.args.p (omega arith) (searched_still (goal.at.loop-n-preserved c).After-strike-t))) (omega (arith, w.t-is, e.1, before, within))
+      | else-is_new w ↦ one_more (goal.at.loop-n-preserved c).After-column_left-x (rw w.counts-is (right_struck (goal.at.loop-n-preserved c).After-strike-t (has_not (goal.at.loop-n-preserved c).After-strike-t w.if-is_new.false))) (rw (w.counts-is, w.t-is) (searched_still (goal.at.loop-n-preserved c).After-strike-t)) (omega (arith, w.t-is, before, within))
+    ]
+
+pub returns : goal.returns
+returns c =
+    record { told = told_yes (peeling_all c.args.or.now c.args.oc.now (given (goal.at.returns c).Start) (ending (goal.at.returns c).After-window_end-end) c.loop-n.invariant (omega (arith, c.loop-n.invariant.upto))); places_len = (c.loop-n.invariant.placed.long, c.loop-n.invariant.moved.long, c.loop-n.invariant.left.long) }
+
+pub offset_bounds-places-x : goal.offset_bounds-places-x
+offset_bounds-places-x c = omega (arith, row_small (goal.at.offset_bounds-places-x c).After-column_left-x)
+
+pub bounds-places-x : goal.bounds-places-x
+bounds-places-x c = row_small (goal.at.bounds-places-x c).After-column_left-x
+
+pub overflow_cast-places : goal.overflow_cast-places
+overflow_cast-places c = omega (arith, end_small (goal.at.overflow_cast-places c).After-window_end-end)
+
+pub offset_bounds-places-x-in-loop-n : goal.offset_bounds-places-x-in-loop-n
+offset_bounds-places-x-in-loop-n c = omega (arith, row_small (goal.at.offset_bounds-places-x-in-loop-n c).After-column_left-x)
+
+pub bounds-places-x-in-loop-n : goal.bounds-places-x-in-loop-n
+bounds-places-x-in-loop-n c = row_small (goal.at.bounds-places-x-in-loop-n c).After-column_left-x
+
+pub overflow_cast-old : goal.overflow_cast-old
+overflow_cast-old c = omega (arith, place_low (goal.at.overflow_cast-old c).After-strike-t)
+
+pub offset_bounds-old-y : goal.offset_bounds-old-y
+offset_bounds-old-y c = omega (arith, col_in (goal.at.offset_bounds-old-y c).After-wide-y, small (goal.at.offset_bounds-old-y c).Start)
+
+pub bounds-old-y : goal.bounds-old-y
+bounds-old-y c = omega (arith, col_in (goal.at.bounds-old-y c).After-wide-y, small (goal.at.bounds-old-y c).Start)
+
+pub overflow_add-n : goal.overflow_add-n
+overflow_add-n c = omega (arith, place_low (goal.at.overflow_add-n c).After-strike-t)
