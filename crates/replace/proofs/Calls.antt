@@ -6,7 +6,6 @@ use Prim.Native.Nat.{ℕ, ◌≤◌}
 use native.Mathlib.Omega.{arith}
 use lib.ListN.{length}
 use Rattle.pattern.specs.Ladder.{fails, holds}
-use Rattle.pattern.specs.Verdict.{size}
 use Rattle.pattern.proofs.Rungs.{unless_map}
 use Rattle.register.specs.Checks.{FirstFault}
 use Rattle.register.specs.Lent.{SoundLists}

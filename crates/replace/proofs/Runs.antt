@@ -6,7 +6,6 @@ use Prim.Native.Nat.{ℕ}
 use Rattle.pattern.specs.Flat.{start_of}
 use Rattle.pattern.specs.Order.{SoundOrder}
 use Rattle.pattern.specs.Pattern.{Entry}
-use Rattle.pattern.specs.Places.{at}
 use Rattle.pattern.specs.Verdict.{cleared_columns, Verdict, Singular, Permuted, Elimination, Judged}
 use Rattle.pattern.proofs.Clearing.{spiked_columns_rise, cleared_columns_rise, cleared_is}
 use Rattle.pattern.proofs.Rungs.{unless_both}

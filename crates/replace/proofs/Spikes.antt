@@ -133,7 +133,7 @@ module _ {a : Call} (J : Judgeable a) where
         rw (call_size J) at (spiked_total (columns a.size a.lists) a.column a.new_rows (omega (arith, call_size J, J.column_below))),
         parts_start a.size starts entries G.room G.formed.starts_right a.size (omega arith),
         ap length (part_is a.size starts entries a.column J.column_below),
-        between_length (at starts a.column) (at starts (a.column + 1)) entries W.in_List,
+        between_length (at starts a.column) (at starts (a.column + 1)) entries W.in_list,
         W.no_fall,
         starts_rise G.formed.starts_right (a.column + 1) a.size (omega (arith, J.column_below)) (omega arith),
       )

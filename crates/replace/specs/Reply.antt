@@ -1,6 +1,5 @@
 -- What a replacement replies, in the paper's words. Rests on `register` and `judge`.
 use Rattle.std.specs.Prelude.{ℕ}
-use Rattle.register.specs.declared.Checked.TheVariants.{Refused}
 use Rattle.register.specs.Reply.{number}
 use Rattle.judge.specs.declared.Judgment.{Judgment}
 use Rattle.judge.specs.declared.Judgment.TheVariants.{Singular, Permuted, Elimination}

@@ -1,4 +1,7 @@
 // Replacement of a column: the checks, the judgment, the change.
+
+#![tactic(auto)]
+
 mod arrange;
 mod change;
 mod check;
