@@ -1,4 +1,7 @@
 // The register for C: numbers and lists alone. A list comes as a pointer and a length, as include/scrollbobbin.h has it.
+
+#![tactic(auto)]
+
 mod sheets;
 
 ghost use Rattle.std.specs.Prelude.{◌≡◌, ◌+◌};
