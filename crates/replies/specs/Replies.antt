@@ -1,5 +1,5 @@
 -- The reply lines. Rests on `text`, `replace` and `pattern`.
-use Rattle.std.specs.Prelude.{List, [], ◌∷◌, ◌++◌, ℕ, ◌+◌, take}
+use Rattle.std.specs.Prelude.{List, [], ◌∷◌, ◌++◌, ℕ, take}
 use Rattle.pattern.specs.Order.{pairs}
 use Rattle.text.specs.Series.{series}
 use Rattle.text.specs.Text.{LF, space, decimal, carried, spaced}

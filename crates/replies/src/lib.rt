@@ -1,4 +1,7 @@
 // The tryout's reply lines, put at a place of the output list that has room for any of them. Each function replies the place after its line.
+
+#![tactic(auto)]
+
 mod places;
 
 ghost use Rattle.std.specs.Prelude.{◌+◌, ◌≤◌, length};
