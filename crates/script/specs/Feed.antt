@@ -7,7 +7,7 @@ use Rattle.listing.specs.Limits.{max_size, max_total}
 use Rattle.text.specs.Text.{max_line, max_numbers, max_count}
 use Rattle.register.specs.Takes.{Takes}
 use Rattle.replies.specs.Replies.{max_reply}
-use Rattle.turns.specs.Turns.{Lent, Run, run, After}
+use Rattle.turns.specs.Turns.{Lent, Run, After}
 use Rattle.turns.specs.declared.State.{State}
 use Rattle.turns.specs.declared.Turn.{Turn}
 use Rattle.turns.specs.declared.Turn.TheVariants as turn

@@ -1,7 +1,6 @@
 -- The tryout, from the bytes read to the bytes written. Rests on `turns`, `replies` and `text`.
 use Rattle.std.specs.Prelude.{Bool, true, false, List, [], ◌∷◌, ◌++◌, ◌≡◌, ℕ, zero, suc, ◌+◌, eqb, set}
 use Rattle.text.specs.Text.{LF, max_line}
-use Rattle.register.specs.Lent.{lists}
 use Rattle.replies.specs.Replies.{bad_line}
 use Rattle.turns.specs.declared.State.{State}
 use Rattle.turns.specs.declared.Turn.{Turn}

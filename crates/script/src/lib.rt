@@ -1,5 +1,8 @@
 // The tryout: a text of replacements worked through, byte by byte, in lists that the caller lends. A run is a struct that goes in
 // and comes back; its reply lines go to the head of an output list.
+
+#![tactic(auto)]
+
 mod bytes;
 
 ghost use Rattle.std.specs.Prelude.{cond, [], ◌≡◌};
