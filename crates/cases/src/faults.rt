@@ -1,9 +1,11 @@
 // Registers of size 2 with the columns 0:{0} and 1:{0,1} in the order 0:0 1:1, and one fault each: in the column listing, in
 // the row listing, or in the order.
 use crate::report::check;
+use std::io;
 
-fn columns(label: &[u8], starts: &[u16], rows: &[u16]) {
+fn columns(rt: &impl Print, label: &[u8], starts: &[u16], rows: &[u16]) -> io::Result<()> {
     check(
+        rt,
         label,
         2,
         starts,
@@ -12,11 +14,12 @@ fn columns(label: &[u8], starts: &[u16], rows: &[u16]) {
         &[0, 1, 1],
         &[0, 1],
         &[0, 1],
-    );
+    )
 }
 
-fn rows(label: &[u8], starts: &[u16], cols: &[u16]) {
+fn rows(rt: &impl Print, label: &[u8], starts: &[u16], cols: &[u16]) -> io::Result<()> {
     check(
+        rt,
         label,
         2,
         &[0, 1, 3],
@@ -25,11 +28,12 @@ fn rows(label: &[u8], starts: &[u16], cols: &[u16]) {
         cols,
         &[0, 1],
         &[0, 1],
-    );
+    )
 }
 
-fn order(label: &[u8], rows: &[u16], cols: &[u16]) {
+fn order(rt: &impl Print, label: &[u8], rows: &[u16], cols: &[u16]) -> io::Result<()> {
     check(
+        rt,
         label,
         2,
         &[0, 1, 3],
@@ -38,29 +42,35 @@ fn order(label: &[u8], rows: &[u16], cols: &[u16]) {
         &[0, 1, 1],
         rows,
         cols,
-    );
+    )
 }
 
 // Replies 0 and 2.
-pub fn short() {
-    order(b"sound", &[0, 1], &[0, 1]);
-    columns(b"columns in longer lists", &[0, 1, 3, 9], &[0, 0, 1, 9]);
-    rows(b"rows in longer lists", &[0, 2, 3, 9], &[0, 1, 1, 9]);
-    order(b"order in longer lists", &[0, 1, 9], &[0, 1, 9]);
-    columns(b"empty lists for the columns", &[], &[]);
-    rows(b"empty lists for the rows", &[], &[]);
-    order(b"empty lists for the order", &[], &[]);
-    columns(b"two column starts", &[0, 1], &[0, 0, 1]);
-    rows(b"two row starts", &[0, 2], &[0, 1, 1]);
-    order(b"one row in the order", &[0], &[0, 1]);
-    order(b"one column in the order", &[0, 1], &[0]);
-    columns(b"last column start past its list", &[0, 1, 4], &[0, 0, 1]);
-    rows(b"last row start past its list", &[0, 2, 4], &[0, 1, 1]);
+pub fn short(rt: &impl Print) -> io::Result<()> {
+    order(rt, b"sound", &[0, 1], &[0, 1])?;
+    columns(rt, b"columns in longer lists", &[0, 1, 3, 9], &[0, 0, 1, 9])?;
+    rows(rt, b"rows in longer lists", &[0, 2, 3, 9], &[0, 1, 1, 9])?;
+    order(rt, b"order in longer lists", &[0, 1, 9], &[0, 1, 9])?;
+    columns(rt, b"empty lists for the columns", &[], &[])?;
+    rows(rt, b"empty lists for the rows", &[], &[])?;
+    order(rt, b"empty lists for the order", &[], &[])?;
+    columns(rt, b"two column starts", &[0, 1], &[0, 0, 1])?;
+    rows(rt, b"two row starts", &[0, 2], &[0, 1, 1])?;
+    order(rt, b"one row in the order", &[0], &[0, 1])?;
+    order(rt, b"one column in the order", &[0, 1], &[0])?;
+    columns(
+        rt,
+        b"last column start past its list",
+        &[0, 1, 4],
+        &[0, 0, 1],
+    )?;
+    rows(rt, b"last row start past its list", &[0, 2, 4], &[0, 1, 1])
 }
 
 // Check 2 is for both listings before check 3 for one.
-pub fn short_and_malformed() {
+pub fn short_and_malformed(rt: &impl Print) -> io::Result<()> {
     check(
+        rt,
         b"the same, and malformed columns",
         2,
         &[1, 0, 3],
@@ -69,35 +79,36 @@ pub fn short_and_malformed() {
         &[0, 1, 1],
         &[0, 1],
         &[0, 1],
-    );
+    )
 }
 
 // Reply 3.
-pub fn malformed() {
-    columns(b"first start not 0", &[1, 1, 3], &[0, 0, 1]);
-    rows(b"starts that fall", &[0, 3, 2], &[0, 1, 1]);
-    columns(b"middle start past its list", &[0, 9, 3], &[0, 0, 1]);
-    columns(b"equal rows", &[0, 1, 3], &[0, 1, 1]);
-    columns(b"falling rows", &[0, 1, 3], &[0, 1, 0]);
-    columns(b"row number 2", &[0, 1, 3], &[0, 0, 2]);
-    rows(b"column number 2", &[0, 2, 3], &[0, 2, 1]);
+pub fn malformed(rt: &impl Print) -> io::Result<()> {
+    columns(rt, b"first start not 0", &[1, 1, 3], &[0, 0, 1])?;
+    rows(rt, b"starts that fall", &[0, 3, 2], &[0, 1, 1])?;
+    columns(rt, b"middle start past its list", &[0, 9, 3], &[0, 0, 1])?;
+    columns(rt, b"equal rows", &[0, 1, 3], &[0, 1, 1])?;
+    columns(rt, b"falling rows", &[0, 1, 3], &[0, 1, 0])?;
+    columns(rt, b"row number 2", &[0, 1, 3], &[0, 0, 2])?;
+    rows(rt, b"column number 2", &[0, 2, 3], &[0, 2, 1])
 }
 
 // Reply 4, and reply 5 of the order alone.
-pub fn unsound() {
-    rows(b"row listing lacks an entry", &[0, 1, 2], &[0, 1]);
-    columns(b"column listing lacks an entry", &[0, 1, 2], &[0, 1]);
-    rows(b"as many entries, others", &[0, 1, 3], &[1, 0, 1]);
-    order(b"a row twice in the order", &[0, 0], &[0, 1]);
-    order(b"a column twice in the order", &[0, 1], &[1, 1]);
-    order(b"row number 2 in the order", &[0, 2], &[0, 1]);
-    order(b"column number 2 in the order", &[0, 1], &[2, 1]);
-    order(b"the order turned round", &[1, 0], &[1, 0]);
+pub fn unsound(rt: &impl Print) -> io::Result<()> {
+    rows(rt, b"row listing lacks an entry", &[0, 1, 2], &[0, 1])?;
+    columns(rt, b"column listing lacks an entry", &[0, 1, 2], &[0, 1])?;
+    rows(rt, b"as many entries, others", &[0, 1, 3], &[1, 0, 1])?;
+    order(rt, b"a row twice in the order", &[0, 0], &[0, 1])?;
+    order(rt, b"a column twice in the order", &[0, 1], &[1, 1])?;
+    order(rt, b"row number 2 in the order", &[0, 2], &[0, 1])?;
+    order(rt, b"column number 2 in the order", &[0, 1], &[2, 1])?;
+    order(rt, b"the order turned round", &[1, 0], &[1, 0])
 }
 
 // Reply 5 of a pattern that has no such order.
-pub fn empty() {
+pub fn empty(rt: &impl Print) -> io::Result<()> {
     check(
+        rt,
         b"a pair that is no entry",
         2,
         &[0, 1, 2],
@@ -106,8 +117,9 @@ pub fn empty() {
         &[0, 1],
         &[0, 1],
         &[0, 1],
-    );
+    )?;
     check(
+        rt,
         b"an empty column",
         2,
         &[0, 0, 2],
@@ -116,5 +128,5 @@ pub fn empty() {
         &[1, 1],
         &[0, 1],
         &[0, 1],
-    );
+    )
 }

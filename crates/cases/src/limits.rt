@@ -3,19 +3,20 @@ ghost use Rattle.std.specs.Prelude.{◌≤◌};
 
 use crate::report::check;
 use register::Register;
+use std::io;
 
 // The lists of a register of size 1.
-fn size(label: &[u8], m: usize) {
-    check(label, m, &[0, 1], &[0], &[0, 1], &[0], &[0], &[0]);
+fn size(rt: &impl Print, label: &[u8], m: usize) -> io::Result<()> {
+    check(rt, label, m, &[0, 1], &[0], &[0, 1], &[0], &[0], &[0])
 }
 
-pub fn sizes() {
-    size(b"size 0", 0);
-    size(b"size 1", 1);
-    size(b"size 1,000 in short lists", 1000);
-    size(b"size 1,001", 1001);
-    size(b"size 65,536", 65536);
-    size(b"size 65,537", 65537);
+pub fn sizes(rt: &impl Print) -> io::Result<()> {
+    size(rt, b"size 0", 0)?;
+    size(rt, b"size 1", 1)?;
+    size(rt, b"size 1,000 in short lists", 1000)?;
+    size(rt, b"size 1,001", 1001)?;
+    size(rt, b"size 65,536", 65536)?;
+    size(rt, b"size 65,537", 65537)
 }
 
 fn pick(test: bool, a: usize, b: usize) -> usize {
@@ -66,11 +67,20 @@ fn rows(more: usize, starts: &mut [u16; 1001], cols: &mut [u16; 12001]) {
 }
 
 // A register of size 1,000 in the order t:t, with entry lists cut to the given length.
-fn cut(label: &[u8], cs: &[u16], cr: &[u16], rs: &[u16], rc: &[u16], length: usize) {
+fn cut(
+    rt: &impl Print,
+    label: &[u8],
+    cs: &[u16],
+    cr: &[u16],
+    rs: &[u16],
+    rc: &[u16],
+    length: usize,
+) -> io::Result<()> {
     let order = Register::fresh_order();
     if length <= cr.len() {
         if length <= rc.len() {
             check(
+                rt,
                 label,
                 1000,
                 cs,
@@ -79,34 +89,36 @@ fn cut(label: &[u8], cs: &[u16], cr: &[u16], rs: &[u16], rc: &[u16], length: usi
                 &rc[0..length],
                 &order,
                 &order,
-            );
+            )?;
         }
     }
+    Ok(())
 }
 
 fn whole(
+    rt: &impl Print,
     label: &[u8],
     cs: &[u16; 1001],
     cr: &[u16; 12001],
     rs: &[u16; 1001],
     rc: &[u16; 12001],
     length: usize,
-) {
-    cut(label, cs, cr, rs, rc, length);
+) -> io::Result<()> {
+    cut(rt, label, cs, cr, rs, rc, length)
 }
 
-fn total(label: &[u8], more: usize, length: usize) {
+fn total(rt: &impl Print, label: &[u8], more: usize, length: usize) -> io::Result<()> {
     let mut cs = [0u16; 1001];
     let mut cr = [0u16; 12001];
     let mut rs = [0u16; 1001];
     let mut rc = [0u16; 12001];
     columns(more, &mut cs, &mut cr);
     rows(more, &mut rs, &mut rc);
-    whole(label, &cs, &cr, &rs, &rc, length);
+    whole(rt, label, &cs, &cr, &rs, &rc, length)
 }
 
-pub fn totals() {
-    total(b"size 1,000, total 12,000", 122, 12000);
-    total(b"total 12,001", 123, 12001);
-    total(b"total 12,001 in 12,000 places", 123, 12000);
+pub fn totals(rt: &impl Print) -> io::Result<()> {
+    total(rt, b"size 1,000, total 12,000", 122, 12000)?;
+    total(rt, b"total 12,001", 123, 12001)?;
+    total(rt, b"total 12,001 in 12,000 places", 123, 12000)
 }

@@ -1,15 +1,15 @@
 // One line of the report.
 use register::{Checked, Register};
+use std::io;
 
-pub fn line(label: &[u8], number: usize) {
-    io::write_all(1, label);
-    io::write_all(1, b": ");
-    io::print_decimal(1, number as u64);
-    io::write_all(1, b"\n");
+pub fn line(rt: &impl Print, label: &[u8], number: usize) -> io::Result<()> {
+    rt.write_all(label)?;
+    println!(rt; ": {number}")
 }
 
 // The number of a lent register's first fault, or 0.
 pub fn check(
+    rt: &impl Print,
     label: &[u8],
     m: usize,
     cs: &[u16],
@@ -18,9 +18,9 @@ pub fn check(
     rc: &[u16],
     or: &[u16],
     oc: &[u16],
-) {
+) -> io::Result<()> {
     match (Register { size: m }).check(cs, cr, rs, rc, or, oc) {
-        Checked::Sound => line(label, 0),
-        Checked::Refused(refusal) => line(label, refusal.number()),
+        Checked::Sound => line(rt, label, 0),
+        Checked::Refused(refusal) => line(rt, label, refusal.number()),
     }
 }

@@ -1,8 +1,16 @@
 // The tryout program: reads a text of replacements from standard input and writes a reply line for each. The bytes of each read are
 // fed to a run of `script`, and what that printed is written at once.
+
+#![tactic(auto)]
+
 ghost use Rattle.std.specs.Prelude.{◌<◌};
 
+use std::io;
+use std::io::Read;
 use turns::State;
+
+// As many bytes as are read at once, and the room for what a call of `feed` prints.
+const BYTES: usize = 65536;
 
 // What a text works in; the entry lists have 12,000 places.
 const STARTS: usize = 1001;
@@ -17,6 +25,7 @@ const LINE: usize = 8000;
 
 // Feeds one read to the run, in as many calls as the output list has room for, with a write after each.
 fn work(
+    rt: &impl Print,
     chunk: &[u8],
     state: State,
     line: &mut [u8],
@@ -29,7 +38,7 @@ fn work(
     oc: &mut [u16],
     eta: &mut [u16],
     out: &mut [u8],
-) -> State {
+) -> io::Result<State> {
     let mut st = state;
     let mut at = 0;
     while at < chunk.len() {
@@ -47,7 +56,7 @@ fn work(
             eta,
             out,
         );
-        io::write_all(1, &out[..fed.written]);
+        rt.write_all(&out[..fed.written])?;
         st = fed.state;
         // A run that takes nothing has ended.
         if fed.taken == 0 {
@@ -56,7 +65,7 @@ fn work(
             at += fed.taken;
         }
     }
-    st
+    Ok(st)
 }
 
 // How many reads are left: as many as can be counted, and none after the run's end.
@@ -70,9 +79,10 @@ fn left(turns: u64, state: State) -> u64
     turns - 1
 }
 
-fn main() {
-    let mut buf = io::large_buffer();
-    let mut out = io::large_buffer();
+fn main(rt: HostRuntime) -> io::Result<()> {
+    let mut input = rt.stdin();
+    let mut buf = [0u8; BYTES];
+    let mut out = [0u8; BYTES];
     let mut line = [0u8; LINE];
     let mut numbers = [0u16; NUMBERS];
     let mut cs = [0u16; STARTS];
@@ -85,12 +95,12 @@ fn main() {
     let mut state = script::begin();
     let mut turns = u64::MAX;
     while turns > 0 {
-        let got = libc::read(0, &mut buf);
-        let n = io::count(got, &buf);
+        let n = input.read(&mut buf)?;
         if n == 0 {
             turns = 0;
         } else {
             state = work(
+                &rt,
                 &buf[..n],
                 state,
                 &mut line,
@@ -103,10 +113,10 @@ fn main() {
                 &mut oc,
                 &mut eta,
                 &mut out,
-            );
+            )?;
             turns = left(turns, state);
         }
     }
     let rest = script::finish(state, &mut out);
-    io::write_all(1, &out[..rest]);
+    rt.write_all(&out[..rest])
 }
