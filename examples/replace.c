@@ -3,7 +3,7 @@
  * and the sheet of what came of them, written and read back. It prints examples/replace.out. The
  * functions are those of include/scrollbobbin.h, which tells them in full.
  *
- *     rt staticlib cabi
+ *     tests/library
  *     cc -I include -o target/replace examples/replace.c target/staticlib/libcabi.a
  *     target/replace
  */

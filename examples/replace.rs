@@ -2,7 +2,7 @@
 // examples/paper.txt, and the sheet of what came of them, written and read back. It prints
 // examples/replace.out. The functions are those of include/scrollbobbin.h, which tells them in full.
 //
-//     rt staticlib cabi
+//     tests/library
 //     rustc -O --edition 2021 -L native=target/staticlib -l static=cabi -o target/replace-rs examples/replace.rs
 //     target/replace-rs
 

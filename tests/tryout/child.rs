@@ -39,7 +39,7 @@ pub fn run(text: &[u8], way: &Way) -> Ended {
 }
 
 fn begin(text: &[u8], way: &Way) -> io::Result<(Child, Feed)> {
-    let program = std::env::var("TRYOUT").unwrap_or("target/bin/tryout".to_string());
+    let program = std::env::var("TRYOUT").unwrap_or("crates/tryout/out/tryout".to_string());
     let spawn = |stdin: Stdio| {
         let mut command = Command::new(&program);
         command.stdin(stdin).stdout(Stdio::piped()).spawn()
