@@ -17,11 +17,14 @@ a s =
 
 -- No check refused the call.
 module _ (c : In_default) where
+  abbrev start : Start
+  start = (goal.at.In_default c).Start
+
   none : fault c.check_call-checked.result ≡ 0
   none = ap fault c.in_default.is
 
-  taken : CallTaken (a (goal.at.In_default c).Start)
-  taken = call_taken (a (goal.at.In_default c).Start) (subst (CallFault (a (goal.at.In_default c).Start)) none c.check_call-checked.ensures.call_fault)
+  taken : CallTaken (a start)
+  taken = call_taken (a start) (subst (CallFault (a start)) none c.check_call-checked.ensures.call_fault)
 
 pub returns-in-Refused : goal.returns-in-Refused
 returns-in-Refused c =
@@ -29,9 +32,14 @@ returns-in-Refused c =
 
 pub change-requires : goal.change-requires
 change-requires c =
-    let t = taken (goal.at.change-requires c).In_default in
-    let k = c.check_call-checked.ensures.places_known (none (goal.at.change-requires c).In_default) in
-    record { judgeable = (t.judgeable, t.eta_fits); new_fits = t.new_fits; work_len = (k.work_long, k.cols_placed, k.rows_placed) }
+    let in_default = (goal.at.change-requires c).In_default in
+    let t = taken in_default in
+    let k = c.check_call-checked.ensures.places_known (none in_default) in
+    record {
+      judgeable = (t.judgeable, t.eta_fits);
+      new_fits = t.new_fits;
+      work_len = (k.work_long, k.cols_placed, k.rows_placed);
+    }
 
 pub returns : goal.returns
 returns c =

@@ -26,8 +26,11 @@ module _ (s : Start) where
 
 -- One part after another.
 module _ (p : After-put_word-at) where
-  one : Done (goal.at.After-put_word-at p).Start 1 p.put_word-at.result p.put_word-at.new.out
-  one = part_put (none (goal.at.After-put_word-at p).Start) p.put_word-at.ensures
+  abbrev start : Start
+  start = (goal.at.After-put_word-at p).Start
+
+  one : Done start 1 p.put_word-at.result p.put_word-at.new.out
+  one = part_put (none start) p.put_word-at.ensures
 
 module _ (p : After-put_spaced-at) where
   two : Done (goal.at.After-put_spaced-at p).Start 2 p.put_spaced-at.result p.put_spaced-at.new.out

@@ -32,7 +32,10 @@ module _ (c : In-Read) where
 
 -- The lists have room for it.
 module _ (c : Else-not-takes) where
-  room : Takes (size (goal.at.Else-not-takes c).In-Read) (total (goal.at.Else-not-takes c).In-Read) (lent (goal.at.Else-not-takes c).Start)
+  abbrev in_Read : In-Read
+  in_Read = (goal.at.Else-not-takes c).In-Read
+
+  room : Takes (size in_Read) (total in_Read) (lent (goal.at.Else-not-takes c).Start)
   room = shown c.takes.ensures c.if-not-takes.false
 
 pub returns-then-not-takes : goal.returns-then-not-takes

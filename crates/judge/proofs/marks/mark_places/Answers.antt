@@ -26,11 +26,12 @@ loop-k-init c = (omega arith, c.requires.1, marking_none (at c.args.places.now) 
 
 pub loop-k-preserved : goal.loop-k-preserved
 loop-k-preserved c =
+    let after_wide_in_loop_k = (goal.at.loop-k-preserved c).After-wide-in-loop-k in
     let a = c.args in
     let i = c.wide-in-loop-k.result in (
       omega arith,
       length-set c.loop-k.marks i true ∙ c.loop-k.invariant.1,
-      marking_more (at a.places.now) a.numbers.now c.loop-k.k i (omega arith) (place_is (goal.at.loop-k-preserved c).After-wide-in-loop-k) c.loop-k.invariant.2 (stored_flag c.loop-k.marks i (mark_in (goal.at.loop-k-preserved c).After-wide-in-loop-k) c.loop-k.invariant.1),
+      marking_more (at a.places.now) a.numbers.now c.loop-k.k i (omega arith) (place_is after_wide_in_loop_k) c.loop-k.invariant.2 (stored_flag c.loop-k.marks i (mark_in after_wide_in_loop_k) c.loop-k.invariant.1),
     )
 
 pub returns : goal.returns

@@ -25,9 +25,10 @@ count_of-requires c = rw c.wide.ensures (c.requires.by_index c.loop-t.t (omega a
 
 pub loop-t-preserved : goal.loop-t-preserved
 loop-t-preserved c =
+    let after_wide = (goal.at.loop-t-preserved c).After-wide in
     let l = c.loop-t in
     let n = c.count_of.result in
-    let e : n ≡ unplaced c.args.places.now (rows (goal.at.loop-t-preserved c).After-wide (at c.args.oc.now l.t)) = c.count_of.ensures ∙ ap (λ (y : ℕ). unplaced c.args.places.now (rows (goal.at.loop-t-preserved c).After-wide y)) c.wide.ensures in (
+    let e : n ≡ unplaced c.args.places.now (rows after_wide (at c.args.oc.now l.t)) = c.count_of.ensures ∙ ap (λ (y : ℕ). unplaced c.args.places.now (rows after_wide y)) c.wide.ensures in (
       omega arith,
       omega arith,
       record {

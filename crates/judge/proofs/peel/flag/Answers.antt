@@ -13,10 +13,11 @@ loop-k-init c = (omega arith, flagging_none c.requires.1)
 
 pub loop-k-preserved : goal.loop-k-preserved
 loop-k-preserved c =
+    let after_wide_x = (goal.at.loop-k-preserved c).After-wide-x in
     let l = c.loop-k in
     elim c.if-places-x-eq-NOWHERE.branch [
-      | then-places-x-eq-NOWHERE v ↦ (omega arith, rw v.places-is (flagging_more (omega arith) c.wide-x.ensures (row_in (goal.at.loop-k-preserved c).After-wide-x) l.invariant.1 v.if-places-x-eq-NOWHERE.true))
-      | else-places-x-eq-NOWHERE v ↦ (omega arith, rw v.places-is (flagging_same (omega arith) c.wide-x.ensures (row_in (goal.at.loop-k-preserved c).After-wide-x) l.invariant.1 v.if-places-x-eq-NOWHERE.false))
+      | then-places-x-eq-NOWHERE v ↦ (omega arith, rw v.places-is (flagging_more (omega arith) c.wide-x.ensures (row_in after_wide_x) l.invariant.1 v.if-places-x-eq-NOWHERE.true))
+      | else-places-x-eq-NOWHERE v ↦ (omega arith, rw v.places-is (flagging_same (omega arith) c.wide-x.ensures (row_in after_wide_x) l.invariant.1 v.if-places-x-eq-NOWHERE.false))
     ]
 
 pub returns : goal.returns

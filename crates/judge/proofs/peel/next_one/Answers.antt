@@ -9,7 +9,11 @@ pub loop-t-init : goal.loop-t-init
 loop-t-init c = (omega arith, record { after = omega arith; none = λ u h b. absurd (omega arith) })
 
 pub returns-then-counts-t-eq1 : goal.returns-then-counts-t-eq1
-returns-then-counts-t-eq1 c = let l = c.loop-t in record { searched = l.invariant.1; within = omega arith; there = λ h. c.if-counts-t-eq1.true }
+returns-then-counts-t-eq1 c = let l = c.loop-t in record {
+  searched = l.invariant.1;
+  within = omega arith;
+  there = λ h. c.if-counts-t-eq1.true;
+}
 
 pub loop-t-preserved : goal.loop-t-preserved
 loop-t-preserved c =

@@ -61,21 +61,25 @@ module _ (s : Start) where
 
 pub window_end-end-requires : goal.window_end-end-requires
 window_end-end-requires c =
-    (omega (arith, p_low (goal.at.window_end-end-requires c).Start, small (goal.at.window_end-end-requires c).Start), λ k h. omega (arith, c.requires.c_lt_m.1.below k h, small (goal.at.window_end-end-requires c).Start), λ x u. omega (arith, new_placed (goal.at.window_end-end-requires c).Start x u, small (goal.at.window_end-end-requires c).Start))
+    let start = (goal.at.window_end-end-requires c).Start in
+    (omega (arith, p_low start, small start), λ k h. omega (arith, c.requires.c_lt_m.1.below k h, small start), λ x u. omega (arith, new_placed start x u, small start))
 
 -- The window's end is known.
 module _ (c : After-window_end-end) where
+  abbrev start : Start
+  start = (goal.at.After-window_end-end c).Start
+
   abbrev end : ℕ
   end = c.window_end-end.result
 
-  ending : Ends c.args.m (row (goal.at.After-window_end-end c).Start) c.args.new.now c.args.p end
-  ending = ends (p_low (goal.at.After-window_end-end c).Start) c.requires.c_lt_m.1 c.requires.counts_len.2 c.window_end-end.ensures
+  ending : Ends c.args.m (row start) c.args.new.now c.args.p end
+  ending = ends (p_low start) c.requires.c_lt_m.1 c.requires.counts_len.2 c.window_end-end.ensures
 
-  window : Window c.args.m (S (goal.at.After-window_end-end c).Start) (row (goal.at.After-window_end-end c).Start) (col (goal.at.After-window_end-end c).Start) end
-  window = given_window c.args.or.now c.args.oc.now (given (goal.at.After-window_end-end c).Start) ending
+  window : Window c.args.m (S start) (row start) (col start) end
+  window = given_window c.args.or.now c.args.oc.now (given start) ending
 
   end_small : end ≤ max_size
-  end_small = omega (arith, ending.within, small (goal.at.After-window_end-end c).Start)
+  end_small = omega (arith, ending.within, small start)
 
 pub free-requires : goal.free-requires
 free-requires c =
@@ -88,7 +92,11 @@ flag-requires c =
 
 pub count_left-requires : goal.count_left-requires
 count_left-requires c =
-    let D = ending (goal.at.count_left-requires c).After-window_end-end in record { p_le_end = (omega (arith, D.after), end_small (goal.at.count_left-requires c).After-window_end-end, omega (arith, D.within, c.requires.m_in_bounds.1), c.requires.counts_len.0); by_index = λ t h. spiked_readable c.requires.good.0 c.requires.c_lt_m.0 c.requires.c_lt_m.1 (col (goal.at.count_left-requires c).Start t) (c.requires.m_in_bounds.2.cols.below t (omega (arith, D.within))) }
+    let after_window_end_end = (goal.at.count_left-requires c).After-window_end-end in
+    let D = ending after_window_end_end in record {
+      p_le_end = (omega (arith, D.after), end_small after_window_end_end, omega (arith, D.within, c.requires.m_in_bounds.1), c.requires.counts_len.0);
+      by_index = λ t h. spiked_readable c.requires.good.0 c.requires.c_lt_m.0 c.requires.c_lt_m.1 (col (goal.at.count_left-requires c).Start t) (c.requires.m_in_bounds.2.cols.below t (omega (arith, D.within)));
+    }
 
 pub loop-n-init : goal.loop-n-init
 loop-n-init c =
@@ -105,22 +113,31 @@ module _ (c : After-next_one-t) where
 pub returns-then-t-end : goal.returns-then-t-end
 returns-then-t-end c =
     let none = subst (Searched c.loop-n.counts c.args.p) c.if-t-end.true (searched (goal.at.returns-then-t-end c).After-next_one-t) in
-    record { told = told_no (peeling_stuck c.args.or.now c.args.oc.now (given (goal.at.returns-then-t-end c).Start) (ending (goal.at.returns-then-t-end c).After-window_end-end) c.loop-n.invariant (omega arith) none); places_len = (c.loop-n.invariant.placed.long, c.loop-n.invariant.moved.long, c.loop-n.invariant.left.long) }
+    record {
+      told = told_no (peeling_stuck c.args.or.now c.args.oc.now (given (goal.at.returns-then-t-end c).Start) (ending (goal.at.returns-then-t-end c).After-window_end-end) c.loop-n.invariant (omega arith) none);
+      places_len = (c.loop-n.invariant.placed.long, c.loop-n.invariant.moved.long, c.loop-n.invariant.left.long);
+    }
 
 -- Its column and the place are in range.
 module _ (c : After-wide-y) where
-  before_end : c.next_one-t.result < end (goal.at.After-wide-y c).After-window_end-end
+  abbrev start_of_wide_y : Start
+  start_of_wide_y = (goal.at.After-wide-y c).Start
+
+  abbrev after_window_end_end : After-window_end-end
+  after_window_end_end = (goal.at.After-wide-y c).After-window_end-end
+
+  before_end : c.next_one-t.result < end after_window_end_end
   before_end = omega (arith, c.next_one-t.ensures.within)
 
   col_in : c.wide-y.result < c.args.m
-  col_in = omega (arith, c.wide-y.ensures, c.requires.m_in_bounds.2.cols.below c.next_one-t.result (omega (arith, before_end, (ending (goal.at.After-wide-y c).After-window_end-end).within)))
+  col_in = omega (arith, c.wide-y.ensures, c.requires.m_in_bounds.2.cols.below c.next_one-t.result (omega (arith, before_end, (ending after_window_end_end).within)))
 
   -- Its rows.
   abbrev rows : List ℕ
   rows = spiked_part c.args.cs.now c.args.cr.now c.args.c c.args.new.now c.wide-y.result
 
-  rows_are : column (S (goal.at.After-wide-y c).Start) (col (goal.at.After-wide-y c).Start c.next_one-t.result) ≡ rows
-  rows_are = ap (column (S (goal.at.After-wide-y c).Start)) (sym c.wide-y.ensures) ∙ spiked_is c.requires.good.0 c.requires.c_lt_m.0 c.requires.c_lt_m.1 c.wide-y.result col_in
+  rows_are : column (S start_of_wide_y) (col start_of_wide_y c.next_one-t.result) ≡ rows
+  rows_are = ap (column (S start_of_wide_y)) (sym c.wide-y.ensures) ∙ spiked_is c.requires.good.0 c.requires.c_lt_m.0 c.requires.c_lt_m.1 c.wide-y.result col_in
 
   one_left : at c.loop-n.counts c.next_one-t.result ≡ 1
   one_left = c.next_one-t.ensures.there before_end
@@ -128,7 +145,7 @@ module _ (c : After-wide-y) where
   some_left : SomeLeft c.loop-n.places rows
   some_left =
       subst (SomeLeft c.loop-n.places) rows_are
-      (peeling_some (window (goal.at.After-wide-y c).After-window_end-end) c.loop-n.invariant c.next_one-t.result (searched (goal.at.After-wide-y c).After-next_one-t).after before_end one_left)
+      (peeling_some (window after_window_end_end) c.loop-n.invariant c.next_one-t.result (searched (goal.at.After-wide-y c).After-next_one-t).after before_end one_left)
 
 pub offset_bounds-oc-t : goal.offset_bounds-oc-t
 offset_bounds-oc-t c = omega (arith, c.next_one-t.ensures.within, end_small (goal.at.offset_bounds-oc-t c).After-window_end-end)
@@ -139,49 +156,69 @@ bounds-oc-t c =
 
 pub column_left-x-requires : goal.column_left-x-requires
 column_left-x-requires c =
+    let after_wide_y = (goal.at.column_left-x-requires c).After-wide-y in
     let G = c.requires.good.0 in
-    (omega (arith, col_in (goal.at.column_left-x-requires c).After-wide-y, G.room.starts_long), good_within G c.wide-y.result (col_in (goal.at.column_left-x-requires c).After-wide-y), some_left (goal.at.column_left-x-requires c).After-wide-y)
+    (omega (arith, col_in after_wide_y, G.room.starts_long), good_within G c.wide-y.result (col_in after_wide_y), some_left after_wide_y)
 
 -- Its one row without a place has been found.
 module _ (c : After-column_left-x) where
+  abbrev after_next_one_t : After-next_one-t
+  after_next_one_t = (goal.at.After-column_left-x c).After-next_one-t
+
+  abbrev after_window_end_end_of_column_left_x : After-window_end-end
+  after_window_end_end_of_column_left_x = (goal.at.After-column_left-x c).After-window_end-end
+
+  abbrev after_wide_y : After-wide-y
+  after_wide_y = (goal.at.After-column_left-x c).After-wide-y
+
+  abbrev start_of_column_left_x : Start
+  start_of_column_left_x = (goal.at.After-column_left-x c).Start
+
   abbrev x : ℕ
   x = c.column_left-x.result
 
-  is_left : IsLeft c.loop-n.places (column (S (goal.at.After-column_left-x c).Start) (col (goal.at.After-column_left-x c).Start c.next_one-t.result)) x
-  is_left = subst (λ (r : List ℕ). IsLeft c.loop-n.places r x) (sym (rows_are (goal.at.After-column_left-x c).After-wide-y)) c.column_left-x.ensures
+  is_left : IsLeft c.loop-n.places (column (S start_of_column_left_x) (col start_of_column_left_x c.next_one-t.result)) x
+  is_left = subst (λ (r : List ℕ). IsLeft c.loop-n.places r x) (sym (rows_are after_wide_y)) c.column_left-x.ensures
 
   row_in : x < c.args.m
-  row_in = row_below (window (goal.at.After-column_left-x c).After-window_end-end).columns x (col (goal.at.After-column_left-x c).Start c.next_one-t.result) is_left.there
+  row_in = row_below (window after_window_end_end_of_column_left_x).columns x (col start_of_column_left_x c.next_one-t.result) is_left.there
 
   row_small : x < 1000
-  row_small = omega (arith, row_in, small (goal.at.After-column_left-x c).Start)
+  row_small = omega (arith, row_in, small start_of_column_left_x)
 
   -- Once the counts are right again, one more place has been taken.
   abbrev Right : List ℕ → Type 0
-  Right = Counted (λ u. column (S (goal.at.After-column_left-x c).Start) (col (goal.at.After-column_left-x c).Start u)) (set c.loop-n.places x c.loop-n.n) c.args.p (end (goal.at.After-column_left-x c).After-window_end-end)
+  Right = Counted (λ u. column (S start_of_column_left_x) (col start_of_column_left_x u)) (set c.loop-n.places x c.loop-n.n) c.args.p (end after_window_end_end_of_column_left_x)
 
-  one_more : {counts' : List ℕ} {t' : ℕ} → Right counts' → Searched counts' c.args.p t' → t' ≤ end (goal.at.After-column_left-x c).After-window_end-end
-      → Peeling c.args.m (S (goal.at.After-column_left-x c).Start) (row (goal.at.After-column_left-x c).Start) (col (goal.at.After-column_left-x c).Start) c.args.new.now c.args.p (end (goal.at.After-column_left-x c).After-window_end-end) (c.loop-n.n + 1) (set c.loop-n.places x c.loop-n.n) (set c.loop-n.old c.wide-y.result c.loop-n.n) counts' t'
+  one_more : {counts' : List ℕ} {t' : ℕ} → Right counts' → Searched counts' c.args.p t' → t' ≤ end after_window_end_end_of_column_left_x
+      → Peeling c.args.m (S start_of_column_left_x) (row start_of_column_left_x) (col start_of_column_left_x) c.args.new.now c.args.p (end after_window_end_end_of_column_left_x) (c.loop-n.n + 1) (set c.loop-n.places x c.loop-n.n) (set c.loop-n.old c.wide-y.result c.loop-n.n) counts' t'
   one_more =
-      peeling_more (window (goal.at.After-column_left-x c).After-window_end-end) c.loop-n.invariant c.next_one-t.result (searched (goal.at.After-column_left-x c).After-next_one-t).after (before_end (goal.at.After-column_left-x c).After-wide-y) (one_left (goal.at.After-column_left-x c).After-wide-y) x is_left.there is_left.nowhere
-      (omega arith) (searched (goal.at.After-column_left-x c).After-next_one-t) c.wide-y.result c.wide-y.ensures
+      peeling_more (window after_window_end_end_of_column_left_x) c.loop-n.invariant c.next_one-t.result (searched after_next_one_t).after (before_end after_wide_y) (one_left after_wide_y) x is_left.there is_left.nowhere
+      (omega arith) (searched after_next_one_t) c.wide-y.result c.wide-y.ensures
 
 pub part-requires : goal.part-requires
 part-requires c =
+    let after_column_left_x = (goal.at.part-requires c).After-column_left-x in
     let G = c.requires.good.1 in
-    (omega (arith, row_in (goal.at.part-requires c).After-column_left-x, G.room.starts_long), good_within G (x (goal.at.part-requires c).After-column_left-x) (row_in (goal.at.part-requires c).After-column_left-x))
+    (omega (arith, row_in after_column_left_x, G.room.starts_long), good_within G (x after_column_left_x) (row_in after_column_left_x))
 
 -- Its columns are at hand.
 module _ (c : After-part) where
-  row_left : RowLeft c.args.m (S (goal.at.After-part c).Start) c.args.rs.now c.args.rc.now c.args.oc.now c.args.p (end (goal.at.After-part c).After-window_end-end) c.loop-n.places c.loop-n.counts c.loop-n.old c.part.result.now (x (goal.at.After-part c).After-column_left-x)
+  abbrev after_column_left_x : After-column_left-x
+  after_column_left_x = (goal.at.After-part c).After-column_left-x
+
+  abbrev after_window_end_end_of_part : After-window_end-end
+  after_window_end_end_of_part = (goal.at.After-part c).After-window_end-end
+
+  row_left : RowLeft c.args.m (S (goal.at.After-part c).Start) c.args.rs.now c.args.rc.now c.args.oc.now c.args.p (end after_window_end_end_of_part) c.loop-n.places c.loop-n.counts c.loop-n.old c.part.result.now (x after_column_left_x)
   row_left =
       record {
         long = c.loop-n.invariant.placed.long;
         counted = c.loop-n.invariant.left;
-        inside = row_in (goal.at.After-part c).After-column_left-x;
-        nowhere = (is_left (goal.at.After-part c).After-column_left-x).nowhere;
+        inside = row_in after_column_left_x;
+        nowhere = (is_left after_column_left_x).nowhere;
         is = c.part.ensures;
-        stands = old_stands (window (goal.at.After-part c).After-window_end-end) c.loop-n.invariant (x (goal.at.After-part c).After-column_left-x) (is_left (goal.at.After-part c).After-column_left-x).nowhere;
+        stands = old_stands (window after_window_end_end_of_part) c.loop-n.invariant (x after_column_left_x) (is_left after_column_left_x).nowhere;
       }
 
 pub strike-t-requires : goal.strike-t-requires
@@ -190,50 +227,69 @@ strike-t-requires c =
 
 -- They have been struck but c, and it is known whether the new column has the row.
 module _ (c : After-strike-t) where
+  abbrev after_part : After-part
+  after_part = (goal.at.After-strike-t c).After-part
+
+  abbrev start_of_strike_t : Start
+  start_of_strike_t = (goal.at.After-strike-t c).Start
+
+  abbrev after_column_left_x_of_strike_t : After-column_left-x
+  after_column_left_x_of_strike_t = (goal.at.After-strike-t c).After-column_left-x
+
+  abbrev after_window_end_end_of_strike_t : After-window_end-end
+  after_window_end_end_of_strike_t = (goal.at.After-strike-t c).After-window_end-end
+
   abbrev counts : List ℕ
   counts = c.strike-t.new.counts
 
   place_low : c.loop-n.n < max_size
-  place_low = omega (arith, end_small (goal.at.After-strike-t c).After-window_end-end)
+  place_low = omega (arith, end_small after_window_end_end_of_strike_t)
 
-  has_new : at c.loop-n.places (x (goal.at.After-strike-t c).After-column_left-x) ≡ 1001 → has c.args.new.now (x (goal.at.After-strike-t c).After-column_left-x) ≡ true
-  has_new e = new_told c.args.new.now c.loop-n.places (x (goal.at.After-strike-t c).After-column_left-x) c.loop-n.invariant.told (row_in (goal.at.After-strike-t c).After-column_left-x) (is_left (goal.at.After-strike-t c).After-column_left-x).nowhere true (eq-eqb _ _ e)
+  has_new : at c.loop-n.places (x after_column_left_x_of_strike_t) ≡ 1001 → has c.args.new.now (x after_column_left_x_of_strike_t) ≡ true
+  has_new e = new_told c.args.new.now c.loop-n.places (x after_column_left_x_of_strike_t) c.loop-n.invariant.told (row_in after_column_left_x_of_strike_t) (is_left after_column_left_x_of_strike_t).nowhere true (eq-eqb _ _ e)
 
-  has_not : at c.loop-n.places (x (goal.at.After-strike-t c).After-column_left-x) ≢ 1001 → has c.args.new.now (x (goal.at.After-strike-t c).After-column_left-x) ≡ false
-  has_not n = new_told c.args.new.now c.loop-n.places (x (goal.at.After-strike-t c).After-column_left-x) c.loop-n.invariant.told (row_in (goal.at.After-strike-t c).After-column_left-x) (is_left (goal.at.After-strike-t c).After-column_left-x).nowhere false (ne_eqb _ _ n)
+  has_not : at c.loop-n.places (x after_column_left_x_of_strike_t) ≢ 1001 → has c.args.new.now (x after_column_left_x_of_strike_t) ≡ false
+  has_not n = new_told c.args.new.now c.loop-n.places (x after_column_left_x_of_strike_t) c.loop-n.invariant.told (row_in after_column_left_x_of_strike_t) (is_left after_column_left_x_of_strike_t).nowhere false (ne_eqb _ _ n)
 
-  right_struck : has c.args.new.now (x (goal.at.After-strike-t c).After-column_left-x) ≡ false → Right (goal.at.After-strike-t c).After-column_left-x counts
-  right_struck = left_struck c.args.or.now c.args.oc.now (given (goal.at.After-strike-t c).Start) (ending (goal.at.After-strike-t c).After-window_end-end) (row_left (goal.at.After-strike-t c).After-part) place_low c.strike-t.ensures.0
+  right_struck : has c.args.new.now (x after_column_left_x_of_strike_t) ≡ false → Right after_column_left_x_of_strike_t counts
+  right_struck = left_struck c.args.or.now c.args.oc.now (given start_of_strike_t) (ending after_window_end_end_of_strike_t) (row_left after_part) place_low c.strike-t.ensures.0
 
-  right_lowered : has c.args.new.now (x (goal.at.After-strike-t c).After-column_left-x) ≡ true → Right (goal.at.After-strike-t c).After-column_left-x (set counts c.args.p (at counts c.args.p - 1))
+  right_lowered : has c.args.new.now (x after_column_left_x_of_strike_t) ≡ true → Right after_column_left_x_of_strike_t (set counts c.args.p (at counts c.args.p - 1))
   right_lowered e =
-      left_lowered c.args.or.now c.args.oc.now (given (goal.at.After-strike-t c).Start) (ending (goal.at.After-strike-t c).After-window_end-end) (row_left (goal.at.After-strike-t c).After-part) place_low c.strike-t.ensures.0 e (at counts c.args.p - 1) refl
+      left_lowered c.args.or.now c.args.oc.now (given start_of_strike_t) (ending after_window_end_end_of_strike_t) (row_left after_part) place_low c.strike-t.ensures.0 e (at counts c.args.p - 1) refl
 
-  some_lower : has c.args.new.now (x (goal.at.After-strike-t c).After-column_left-x) ≡ true → 0 < at counts c.args.p
-  some_lower = c_some c.args.or.now c.args.oc.now (given (goal.at.After-strike-t c).Start) (ending (goal.at.After-strike-t c).After-window_end-end) (row_left (goal.at.After-strike-t c).After-part) place_low c.strike-t.ensures.0
+  some_lower : has c.args.new.now (x after_column_left_x_of_strike_t) ≡ true → 0 < at counts c.args.p
+  some_lower = c_some c.args.or.now c.args.oc.now (given start_of_strike_t) (ending after_window_end_end_of_strike_t) (row_left after_part) place_low c.strike-t.ensures.0
 
   searched_still : Searched counts c.args.p c.strike-t.result
   searched_still =
-      c.strike-t.ensures.2 c.args.p (hits_from c.args.or.now c.args.oc.now (given (goal.at.After-strike-t c).Start) (ending (goal.at.After-strike-t c).After-window_end-end) (row_left (goal.at.After-strike-t c).After-part)) (searched (goal.at.After-strike-t c).After-next_one-t)
+      c.strike-t.ensures.2 c.args.p (hits_from c.args.or.now c.args.oc.now (given start_of_strike_t) (ending after_window_end_end_of_strike_t) (row_left after_part)) (searched (goal.at.After-strike-t c).After-next_one-t)
 
 pub lower-t-requires : goal.lower-t-requires
 lower-t-requires c =
-    (omega (arith, p_low (goal.at.lower-t-requires c).Start, small (goal.at.lower-t-requires c).Start), c.strike-t.ensures.0.long, some_lower (goal.at.lower-t-requires c).After-strike-t (has_new (goal.at.lower-t-requires c).After-strike-t c.if-is_new.true))
+    let start = (goal.at.lower-t-requires c).Start in
+    let after_strike_t = (goal.at.lower-t-requires c).After-strike-t in
+    (omega (arith, p_low start, small start), c.strike-t.ensures.0.long, some_lower after_strike_t (has_new after_strike_t c.if-is_new.true))
 
 pub loop-n-preserved : goal.loop-n-preserved
 loop-n-preserved c =
+    let after_column_left_x = (goal.at.loop-n-preserved c).After-column_left-x in
+    let after_strike_t = (goal.at.loop-n-preserved c).After-strike-t in
     let within = c.next_one-t.ensures.within in
     let before = c.strike-t.ensures.1 in
     elim c.if-is_new.branch [
       | then-is_new w ↦
           let e = w.lower-t.ensures in
-          one_more (goal.at.loop-n-preserved c).After-column_left-x (rw (w.counts-is, e.0) (right_lowered (goal.at.loop-n-preserved c).After-strike-t (has_new (goal.at.loop-n-preserved c).After-strike-t w.if-is_new.true))) (rw (w.counts-is, w.t-is) (e.2 c.args.p (omega arith) (searched_still (goal.at.loop-n-preserved c).After-strike-t))) (omega (arith, w.t-is, e.1, before, within))
-      | else-is_new w ↦ one_more (goal.at.loop-n-preserved c).After-column_left-x (rw w.counts-is (right_struck (goal.at.loop-n-preserved c).After-strike-t (has_not (goal.at.loop-n-preserved c).After-strike-t w.if-is_new.false))) (rw (w.counts-is, w.t-is) (searched_still (goal.at.loop-n-preserved c).After-strike-t)) (omega (arith, w.t-is, before, within))
+          one_more after_column_left_x (rw (w.counts-is, e.0) (right_lowered after_strike_t (has_new after_strike_t w.if-is_new.true))) (rw (w.counts-is, w.t-is) (e.2 c.args.p (omega arith) (searched_still after_strike_t))) (omega (arith, w.t-is, e.1, before, within))
+      | else-is_new w ↦ one_more after_column_left_x (rw w.counts-is (right_struck after_strike_t (has_not after_strike_t w.if-is_new.false))) (rw (w.counts-is, w.t-is) (searched_still after_strike_t)) (omega (arith, w.t-is, before, within))
     ]
 
 pub returns : goal.returns
 returns c =
-    record { told = told_yes (peeling_all c.args.or.now c.args.oc.now (given (goal.at.returns c).Start) (ending (goal.at.returns c).After-window_end-end) c.loop-n.invariant (omega (arith, c.loop-n.invariant.upto))); places_len = (c.loop-n.invariant.placed.long, c.loop-n.invariant.moved.long, c.loop-n.invariant.left.long) }
+    record {
+      told = told_yes (peeling_all c.args.or.now c.args.oc.now (given (goal.at.returns c).Start) (ending (goal.at.returns c).After-window_end-end) c.loop-n.invariant (omega (arith, c.loop-n.invariant.upto)));
+      places_len = (c.loop-n.invariant.placed.long, c.loop-n.invariant.moved.long, c.loop-n.invariant.left.long);
+    }
 
 pub offset_bounds-places-x : goal.offset_bounds-places-x
 offset_bounds-places-x c = omega (arith, row_small (goal.at.offset_bounds-places-x c).After-column_left-x)

@@ -41,27 +41,29 @@ module _ (c : After-wide-y) where
 
 pub lower-t-requires : goal.lower-t-requires
 lower-t-requires c =
-    let hit = is_hit (goal.at.lower-t-requires c).After-wide-y c.if-y-c.true c.wide-place.ensures c.if-place-end.true in (
+    let after_wide_y = (goal.at.lower-t-requires c).After-wide-y in
+    let hit = is_hit after_wide_y c.if-y-c.true c.wide-place.ensures c.if-place-end.true in (
       omega (arith, c.requires.small, c.if-place-end.true),
       c.loop-k.invariant.1.long,
-      rw (place_is (goal.at.lower-t-requires c).After-wide-y c.wide-place.ensures) (next_some c.requires (more (goal.at.lower-t-requires c).After-wide-y) c.loop-k.invariant.1 hit),
+      rw (place_is after_wide_y c.wide-place.ensures) (next_some c.requires (more after_wide_y) c.loop-k.invariant.1 hit),
     )
 
 pub loop-k-preserved : goal.loop-k-preserved
 loop-k-preserved c =
+    let after_wide_y = (goal.at.loop-k-preserved c).After-wide-y in
     let v = c.loop-k.invariant in
     elim c.if-y-c.branch [
       | then-y-c+then-place-end w ↦
           let p = w.wide-place.result in
-          let hit = is_hit (goal.at.loop-k-preserved c).After-wide-y w.if-y-c.true w.wide-place.ensures w.if-place-end.true in
+          let hit = is_hit after_wide_y w.if-y-c.true w.wide-place.ensures w.if-place-end.true in
           let e = w.lower-t.ensures in (
             omega arith,
-            rw (w.counts-is, e.0) (struck_more c.requires (more (goal.at.loop-k-preserved c).After-wide-y) v.1 hit p (at c.loop-k.counts p - 1) (place_is (goal.at.loop-k-preserved c).After-wide-y w.wide-place.ensures) refl),
+            rw (w.counts-is, e.0) (struck_more c.requires (more after_wide_y) v.1 hit p (at c.loop-k.counts p - 1) (place_is after_wide_y w.wide-place.ensures) refl),
             omega (arith, w.t-is, e.1),
-            λ u f N. rw (w.counts-is, w.t-is) (e.2 u (omega (arith, f c.loop-k.k (more (goal.at.loop-k-preserved c).After-wide-y) hit, place_is (goal.at.loop-k-preserved c).After-wide-y w.wide-place.ensures)) (v.3 u f N)),
+            λ u f N. rw (w.counts-is, w.t-is) (e.2 u (omega (arith, f c.loop-k.k (more after_wide_y) hit, place_is after_wide_y w.wide-place.ensures)) (v.3 u f N)),
           )
-      | then-y-c+else-place-end w ↦ passed_by (goal.at.loop-k-preserved c).After-wide-y (λ hit. omega (arith, hit.1, place_is (goal.at.loop-k-preserved c).After-wide-y w.wide-place.ensures, w.if-place-end.false)) w.counts-is w.t-is
-      | else-y-c w ↦ passed_by (goal.at.loop-k-preserved c).After-wide-y (λ hit. hit.0 (sym c.wide-y.ensures ∙ w.if-y-c.false)) w.counts-is w.t-is
+      | then-y-c+else-place-end w ↦ passed_by after_wide_y (λ hit. omega (arith, hit.1, place_is after_wide_y w.wide-place.ensures, w.if-place-end.false)) w.counts-is w.t-is
+      | else-y-c w ↦ passed_by after_wide_y (λ hit. hit.0 (sym c.wide-y.ensures ∙ w.if-y-c.false)) w.counts-is w.t-is
     ]
 
 pub returns : goal.returns

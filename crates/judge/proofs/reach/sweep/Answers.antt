@@ -32,10 +32,11 @@ part-requires c =
 
 pub mark_places-requires : goal.mark_places-requires
 mark_places-requires c =
-    let b = row_in (goal.at.mark_places-requires c).Start c.loop-t.t c.wide.result (omega arith) c.wide.ensures in (
+    let start = (goal.at.mark_places-requires c).Start in
+    let b = row_in start c.loop-t.t c.wide.result (omega arith) c.wide.ensures in (
       λ k h.
           let y = ((good_columns c.requires.good.0).rise (at c.args.or.now c.loop-t.t) (omega (arith, c.wide.ensures, b))).below k in
-          let e = is_row (goal.at.mark_places-requires c).Start c.loop-t.t c.wide.result (omega arith) c.wide.ensures c.part.ensures in
+          let e = is_row start c.loop-t.t c.wide.result (omega arith) c.wide.ensures c.part.ensures in
           let z = ap (λ (j : List ℕ). at j k) e in
           let low : at c.part.result.now k < c.args.m = omega (arith, z, y (omega (arith, ap length e))) in
           omega (arith, low, c.requires.good.0.small, c.requires.from_le_to.2 (at c.part.result.now k) low),

@@ -33,11 +33,13 @@ module _ (c : Else-wide-from) where
 
 pub returns-then-entries-from : goal.returns-then-entries-from
 returns-then-entries-from c =
-    sym (is_start (goal.at.returns-then-entries-from c).Else-wide-from ∙ fall_no c.args.entries.now (from (goal.at.returns-then-entries-from c).Else-wide-from) (rw (read (goal.at.returns-then-entries-from c).Else-wide-from) at c.if-entries-from.true))
+    let else_wide_from = (goal.at.returns-then-entries-from c).Else-wide-from in
+    sym (is_start else_wide_from ∙ fall_no c.args.entries.now (from else_wide_from) (rw (read else_wide_from) at c.if-entries-from.true))
 
 pub returns : goal.returns
 returns c =
-    sym (is_start (goal.at.returns c).Else-wide-from ∙ fall_yes c.args.entries.now (from (goal.at.returns c).Else-wide-from) (omega arith) (rw (read (goal.at.returns c).Else-wide-from) at c.if-entries-from.false))
+    let else_wide_from = (goal.at.returns c).Else-wide-from in
+    sym (is_start else_wide_from ∙ fall_yes c.args.entries.now (from else_wide_from) (omega arith) (rw (read else_wide_from) at c.if-entries-from.false))
 
 pub offset_bounds-entries-from : goal.offset_bounds-entries-from
 offset_bounds-entries-from c = omega (arith, in_list (goal.at.offset_bounds-entries-from c).Else-wide-from)

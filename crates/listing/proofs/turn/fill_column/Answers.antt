@@ -25,6 +25,9 @@ P c = parts c.args.m c.args.starts.now c.args.rows.now
 
 -- A turn, at row r.
 module _ (c : After-wide-r) where
+  abbrev after_part_column : After-part-column
+  after_part_column = (goal.at.After-wide-r c).After-part-column
+
   abbrev cursor : ℕ
   cursor = at c.loop-k.next c.wide-r.result
 
@@ -32,9 +35,9 @@ module _ (c : After-wide-r) where
   cols = c.loop-k.cols
 
   abbrev base : ℕ → ℕ
-  base = start_of (turned c.args.m (P (goal.at.After-wide-r c).After-part-column))
+  base = start_of (turned c.args.m (P after_part_column))
 
-  turn : Turn c.args.m (P (goal.at.After-wide-r c).After-part-column) c.args.j c.loop-k.k c.wide-r.result
+  turn : Turn c.args.m (P after_part_column) c.args.j c.loop-k.k c.wide-r.result
   turn = turn_of c.requires.j_lt_m.1 c.requires.j_lt_m.0 c.part-column.ensures (omega arith) c.wide-r.ensures
 
   fits : base c.args.m ≤ length cols
@@ -46,11 +49,11 @@ module _ (c : After-wide-r) where
   -- The row and its cursor are in range, and the cursor is before the end of the rows.
   row_ok : (c.wide-r.result < max_size) × (cursor < at c.args.starts.now c.args.m) × (cursor < length cols) × (cursor < max_total)
   row_ok =
-      let within = tally_more (λ i. length (column (turned c.args.m (P (goal.at.After-wide-r c).After-part-column)) i)) (c.wide-r.result + 1) c.args.m (omega (arith, row_in turn)) in
+      let within = tally_more (λ i. length (column (turned c.args.m (P after_part_column)) i)) (c.wide-r.result + 1) c.args.m (omega (arith, row_in turn)) in
       omega (arith, row_in turn, turn.small, room, fits, turned_start c.requires.j_lt_m.1, c.requires.j_lt_m.1.formed.starts_right.total)
 
   goes_on : (v : ℕ) → v ≡ cursor + 1
-      → Walked c.args.m base (set cols cursor c.args.j) (λ r. met (P (goal.at.After-wide-r c).After-part-column) r c.args.j (c.loop-k.k + 1))
+      → Walked c.args.m base (set cols cursor c.args.j) (λ r. met (P after_part_column) r c.args.j (c.loop-k.k + 1))
       (set c.loop-k.next c.wide-r.result v)
   goes_on =
       walked_more turn c.loop-k.invariant.2 fits room (set cols cursor c.args.j) (length-set cols cursor c.args.j)
@@ -64,8 +67,9 @@ loop-k-init c = (omega arith, refl, walked_as (λ r h. sym (met_none (P (goal.at
 
 pub loop-k-preserved : goal.loop-k-preserved
 loop-k-preserved c =
-    let kept = kept_set {l = cols (goal.at.loop-k-preserved c).After-wide-r} (cursor (goal.at.loop-k-preserved c).After-wide-r) c.args.j (row_ok (goal.at.loop-k-preserved c).After-wide-r).1 c.loop-k.invariant.3 in
-    (omega arith, refl, rw c.wide.ensures (goes_on (goal.at.loop-k-preserved c).After-wide-r _ (omega arith)), rw c.wide.ensures kept)
+    let after_wide_r = (goal.at.loop-k-preserved c).After-wide-r in
+    let kept = kept_set {l = cols after_wide_r} (cursor after_wide_r) c.args.j (row_ok after_wide_r).1 c.loop-k.invariant.3 in
+    (omega arith, refl, rw c.wide.ensures (goes_on after_wide_r _ (omega arith)), rw c.wide.ensures kept)
 
 pub returns : goal.returns
 returns c =

@@ -20,7 +20,10 @@ lay_starts-requires c =
 
 pub fill_rows-requires : goal.fill_rows-requires
 fill_rows-requires c =
-    record { good = (c.requires.0, c.requires.2); walked = fill_none c.requires.0 c.count_rows.ensures c.lay_starts.ensures c.args.into_entries.now }
+    record {
+      good = (c.requires.0, c.requires.2);
+      walked = fill_none c.requires.0 c.count_rows.ensures c.lay_starts.ensures c.args.into_entries.now;
+    }
 
 pub returns : goal.returns
 returns c =

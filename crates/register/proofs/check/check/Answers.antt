@@ -12,7 +12,10 @@ returns-then-not-long_enough c = record {
 }
 
 pub contents-requires : goal.contents-requires
-contents-requires c = record { sized = (omega arith, shown c.long_enough.ensures c.if-not-long_enough.false); next_len = c.requires }
+contents-requires c = record {
+  sized = (omega arith, shown c.long_enough.ensures c.if-not-long_enough.false);
+  next_len = c.requires;
+}
 
 pub returns : goal.returns
 returns c =
@@ -25,4 +28,7 @@ pub returns-then-m-eq0 : goal.returns-then-m-eq0
 returns-then-m-eq0 c = record { first_fault = fails (λ p. omega arith) refl; places_known = λ e. absurd (omega (arith, e)) }
 
 pub returns-then-m-gt-MAX_SIZE : goal.returns-then-m-gt-MAX_SIZE
-returns-then-m-gt-MAX_SIZE c = record { first_fault = fails (λ p. omega arith) refl; places_known = λ e. absurd (omega (arith, e)) }
+returns-then-m-gt-MAX_SIZE c = record {
+  first_fault = fails (λ p. omega arith) refl;
+  places_known = λ e. absurd (omega (arith, e));
+}

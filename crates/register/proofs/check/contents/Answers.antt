@@ -67,42 +67,62 @@ turned : (c : Else-not-same) → Turned (goal.at.Else-not-same c).After-enter-en
 turned c = (shown c.same.ensures c.if-not-same.false).0
 
 pub returns-then-not-formed : goal.returns-then-not-formed
-returns-then-not-formed c = record { contents = fails (λ p. refuted c.formed.ensures c.if-not-formed.true p.columns_formed) refl; places_known = λ e. absurd (omega (arith, e)) }
+returns-then-not-formed c = record {
+  contents = fails (λ p. refuted c.formed.ensures c.if-not-formed.true p.columns_formed) refl;
+  places_known = λ e. absurd (omega (arith, e));
+}
 
 pub returns-then-not-starts_right : goal.returns-then-not-starts_right
-returns-then-not-starts_right c = record { contents = fails (λ p. refuted c.starts_right.ensures c.if-not-starts_right.true p.rows_formed.starts_right) refl; places_known = λ e. absurd (omega (arith, e)) }
+returns-then-not-starts_right c = record {
+  contents = fails (λ p. refuted c.starts_right.ensures c.if-not-starts_right.true p.rows_formed.starts_right) refl;
+  places_known = λ e. absurd (omega (arith, e));
+}
 
 pub returns-then-not-same : goal.returns-then-not-same
 returns-then-not-same c =
-    record { contents = other (goal.at.returns-then-not-same c).After-enter-entered (refuted c.same.ensures c.if-not-same.true) _ c.unlike.ensures; places_known = λ e. absurd (some_fault c.unlike.ensures e) }
+    record {
+      contents = other (goal.at.returns-then-not-same c).After-enter-entered (refuted c.same.ensures c.if-not-same.true) _ c.unlike.ensures;
+      places_known = λ e. absurd (some_fault c.unlike.ensures e);
+    }
 
 pub returns-then-not-entered : goal.returns-then-not-entered
 returns-then-not-entered c =
-    record { contents = behind (goal.at.returns-then-not-entered c).After-enter-entered (turned (goal.at.returns-then-not-entered c).Else-not-same) _ (fails (λ S. refuted c.enter-entered.ensures c.if-not-entered.true S.rows) refl); places_known = λ z. absurd (omega (arith, z)) }
+    record {
+      contents = behind (goal.at.returns-then-not-entered c).After-enter-entered (turned (goal.at.returns-then-not-entered c).Else-not-same) _ (fails (λ S. refuted c.enter-entered.ensures c.if-not-entered.true S.rows) refl);
+      places_known = λ z. absurd (omega (arith, z));
+    }
 
 -- The places were entered, and the columns' greatest places were held to them.
 module _ (c : After-topped) where
-  rows_placed : Placed (m (goal.at.After-topped c).After-enter-entered) (at (l (goal.at.After-topped c).After-enter-entered).order_rows) c.enter-entered.new.places
+  abbrev after_enter_entered : After-enter-entered
+  after_enter_entered = (goal.at.After-topped c).After-enter-entered
+
+  rows_placed : Placed (m after_enter_entered) (at (l after_enter_entered).order_rows) c.enter-entered.new.places
   rows_placed = shown c.enter-entered.ensures c.if-not-entered.false
 
-  answered : Says c.topped.result (OrderSound (m (goal.at.After-topped c).After-enter-entered) (l (goal.at.After-topped c).After-enter-entered))
+  answered : Says c.topped.result (OrderSound (m after_enter_entered) (l after_enter_entered))
   answered =
-      let G = cols_good (goal.at.After-topped c).After-enter-entered in
+      let G = cols_good after_enter_entered in
       let A = (shown c.same.ensures c.if-not-same.false).1 in
       says_as (tops_sound G rows_placed A _) (sound_tops G rows_placed A _) c.topped.ensures
 
 pub returns-then-not-topped : goal.returns-then-not-topped
-returns-then-not-topped c = record { contents = behind (goal.at.returns-then-not-topped c).After-enter-entered (turned (goal.at.returns-then-not-topped c).Else-not-same) _ (fails (refuted (answered (goal.at.returns-then-not-topped c).After-topped) c.if-not-topped.true) refl); places_known = λ z. absurd (omega (arith, z)) }
+returns-then-not-topped c = record {
+  contents = behind (goal.at.returns-then-not-topped c).After-enter-entered (turned (goal.at.returns-then-not-topped c).Else-not-same) _ (fails (refuted (answered (goal.at.returns-then-not-topped c).After-topped) c.if-not-topped.true) refl);
+  places_known = λ z. absurd (omega (arith, z));
+}
 
 pub returns : goal.returns
 returns c =
-    let S = shown (answered (goal.at.returns c).After-topped) c.if-not-topped.false in
+    let after_topped = (goal.at.returns c).After-topped in
+    let after_enter_entered = (goal.at.returns c).After-enter-entered in
+    let S = shown (answered after_topped) c.if-not-topped.false in
     let A = shown c.same.ensures c.if-not-same.false in record {
-      contents = behind (goal.at.returns c).After-enter-entered (turned (goal.at.returns c).Else-not-same) _ (holds S refl);
+      contents = behind after_enter_entered (turned (goal.at.returns c).Else-not-same) _ (holds S refl);
       places_known = λ z. record {
         work_long = A.2;
-        rows_placed = rows_placed (goal.at.returns c).After-topped;
-        cols_placed = there_placed (at (l (goal.at.returns c).After-enter-entered).order_cols) A.3 S.cols (λ t h. (shown c.topped.ensures c.if-not-topped.false t h).top);
+        rows_placed = rows_placed after_topped;
+        cols_placed = there_placed (at (l after_enter_entered).order_cols) A.3 S.cols (λ t h. (shown c.topped.ensures c.if-not-topped.false t h).top);
       };
     }
 
@@ -110,10 +130,15 @@ pub clear-requires : goal.clear-requires
 clear-requires c = c.requires.next_len.1
 
 pub enter-entered-requires : goal.enter-entered-requires
-enter-entered-requires c = record { m_le_max_size = (c.requires.sized.0.1, c.requires.sized.1.order_rows_fit); places_len = c.clear.ensures }
+enter-entered-requires c = record {
+  m_le_max_size = (c.requires.sized.0.1, c.requires.sized.1.order_rows_fit);
+  places_len = c.clear.ensures;
+}
 
 pub same-requires : goal.same-requires
-same-requires c = (cols_good (goal.at.same-requires c).After-enter-entered, c.requires.sized.1.rows_fit, row_starts (goal.at.same-requires c).After-enter-entered, c.requires.next_len.0, c.requires.next_len.2)
+same-requires c =
+    let after_enter_entered = (goal.at.same-requires c).After-enter-entered in
+    (cols_good after_enter_entered, c.requires.sized.1.rows_fit, row_starts after_enter_entered, c.requires.next_len.0, c.requires.next_len.2)
 
 pub unlike-requires : goal.unlike-requires
 unlike-requires c = (c.requires.sized.1.rows_fit, row_starts (goal.at.unlike-requires c).After-enter-entered)

@@ -30,7 +30,8 @@ module _ (c : After-wide-c) where
 
 pub returns-then-cs-c : goal.returns-then-cs-c
 returns-then-cs-c c =
-    told_no (λ all. omega (arith, from (goal.at.returns-then-cs-c c).After-wide-c, to (goal.at.returns-then-cs-c c).After-wide-c, (all c.loop-t.t (omega arith)).some))
+    let after_wide_c = (goal.at.returns-then-cs-c c).After-wide-c in
+    told_no (λ all. omega (arith, from after_wide_c, to after_wide_c, (all c.loop-t.t (omega arith)).some))
 
 pub returns-then-wide-t : goal.returns-then-wide-t
 returns-then-wide-t c =
@@ -38,11 +39,12 @@ returns-then-wide-t c =
 
 pub loop-t-preserved : goal.loop-t-preserved
 loop-t-preserved c =
+    let after_wide_c = (goal.at.loop-t-preserved c).After-wide-c in
     below_more _ _ c.loop-t.invariant
     (record {
       below = omega (arith, c.wide-c.ensures);
-      some = omega (arith, from (goal.at.loop-t-preserved c).After-wide-c, to (goal.at.loop-t-preserved c).After-wide-c);
-      top = sym (top_is (goal.at.loop-t-preserved c).After-wide-c c.wide.ensures) ∙ c.if-wide-t.false;
+      some = omega (arith, from after_wide_c, to after_wide_c);
+      top = sym (top_is after_wide_c c.wide.ensures) ∙ c.if-wide-t.false;
     })
 
 pub returns : goal.returns

@@ -64,15 +64,16 @@ pub returns-then-wide-j : goal.returns-then-wide-j
 returns-then-wide-j c = told_no (λ all. c.if-wide-j.true (read (goal.at.returns-then-wide-j c).After-wide ∙ (is_next (goal.at.returns-then-wide-j c).After-wide-r all).1))
 
 pub loop-k-preserved : goal.loop-k-preserved
-loop-k-preserved c = (
-  omega arith,
-  goes_on (goal.at.loop-k-preserved c).After-wide-r (omega (arith, c.wide-p.ensures)) (sym (read (goal.at.loop-k-preserved c).After-wide) ∙ c.if-wide-j.false) _ (omega (arith, c.wide-p.ensures)),
-  let h = higher (goal.at.loop-k-preserved c).After-wide-r in
-      elim c.if-top-place.branch [
-        | then-top-place v ↦ omega (arith, v.top-is, v.if-top-place.true, h)
-        | else-top-place v ↦ omega (arith, v.top-is, v.if-top-place.false, h)
-      ],
-)
+loop-k-preserved c =
+    let after_wide_r = (goal.at.loop-k-preserved c).After-wide-r in (
+      omega arith,
+      goes_on after_wide_r (omega (arith, c.wide-p.ensures)) (sym (read (goal.at.loop-k-preserved c).After-wide) ∙ c.if-wide-j.false) _ (omega (arith, c.wide-p.ensures)),
+      let h = higher after_wide_r in
+          elim c.if-top-place.branch [
+            | then-top-place v ↦ omega (arith, v.top-is, v.if-top-place.true, h)
+            | else-top-place v ↦ omega (arith, v.top-is, v.if-top-place.false, h)
+          ],
+    )
 
 pub returns : goal.returns
 returns c =

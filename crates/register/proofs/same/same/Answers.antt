@@ -57,29 +57,37 @@ module _ (c : After-part) where
 
 pub meet-requires : goal.meet-requires
 meet-requires c =
-    let l = c.loop-j in record { j_lt_max_size = (omega (arith, c.requires.0.small), rising_within c.requires.0.small (rise (goal.at.meet-requires c).After-part), l.invariant.2.cursors.long, l.invariant.1); by_index = λ r t. cursor_small c.requires.1 c.requires.2 (P (goal.at.meet-requires c).Start) l.j l.invariant.2.cursors (omega (arith, c.requires.0.small)) r (rising_below (rise (goal.at.meet-requires c).After-part) r t) }
+    let after_part = (goal.at.meet-requires c).After-part in
+    let l = c.loop-j in record {
+      j_lt_max_size = (omega (arith, c.requires.0.small), rising_within c.requires.0.small (rise after_part), l.invariant.2.cursors.long, l.invariant.1);
+      by_index = λ r t. cursor_small c.requires.1 c.requires.2 (P (goal.at.meet-requires c).Start) l.j l.invariant.2.cursors (omega (arith, c.requires.0.small)) r (rising_below (rise after_part) r t);
+    }
 
 pub returns-then-not-meet : goal.returns-then-not-meet
 returns-then-not-meet c =
+    let after_part = (goal.at.returns-then-not-meet c).After-part in
     told_no (λ all. refuted c.meet.ensures c.if-not-meet.true
-    (subst (λ (l : List ℕ). AllNext c.args.rc.now (j (goal.at.returns-then-not-meet c).After-part) l c.loop-j.next) (sym (rows_are (goal.at.returns-then-not-meet c).After-part))
-    (turned_next c.requires.1 c.requires.2 (P (goal.at.returns-then-not-meet c).Start) (j (goal.at.returns-then-not-meet c).After-part) (good_columns c.requires.0) (in_size (goal.at.returns-then-not-meet c).After-part) c.loop-j.invariant.2.cursors all)))
+    (subst (λ (l : List ℕ). AllNext c.args.rc.now (j after_part) l c.loop-j.next) (sym (rows_are after_part))
+    (turned_next c.requires.1 c.requires.2 (P (goal.at.returns-then-not-meet c).Start) (j after_part) (good_columns c.requires.0) (in_size after_part) c.loop-j.invariant.2.cursors all)))
 
 pub loop-j-preserved : goal.loop-j-preserved
 loop-j-preserved c =
+    let after_part = (goal.at.loop-j-preserved c).After-part in
+    let start = (goal.at.loop-j-preserved c).Start in
     let i = c.loop-j.invariant in
     let places = c.args.places.now in
     let d = shown c.meet.ensures c.if-not-meet.false in (
       omega arith,
-      ap length d.1 ∙ length-set c.loop-j.tops (j (goal.at.loop-j-preserved c).After-part) _ ∙ i.1,
-      passed_more (P (goal.at.loop-j-preserved c).Start) (j (goal.at.loop-j-preserved c).After-part) i.2 (rw (rows_are (goal.at.loop-j-preserved c).After-part) at d.0),
-      subst (Tops (j (goal.at.loop-j-preserved c).After-part + 1) places (P (goal.at.loop-j-preserved c).Start)) (sym d.1)
-          (stored_more (λ y. greatest (at places) (column (P (goal.at.loop-j-preserved c).Start) y)) c.loop-j.tops (j (goal.at.loop-j-preserved c).After-part) _ (omega (arith, in_size (goal.at.loop-j-preserved c).After-part, c.requires.0.small)) (ap (greatest (at places)) (rows_are (goal.at.loop-j-preserved c).After-part)) i.3),
+      ap length d.1 ∙ length-set c.loop-j.tops (j after_part) _ ∙ i.1,
+      passed_more (P start) (j after_part) i.2 (rw (rows_are after_part) at d.0),
+      subst (Tops (j after_part + 1) places (P start)) (sym d.1)
+          (stored_more (λ y. greatest (at places) (column (P start) y)) c.loop-j.tops (j after_part) _ (omega (arith, in_size after_part, c.requires.0.small)) (ap (greatest (at places)) (rows_are after_part)) i.3),
     )
 
 pub returns : goal.returns
 returns c =
+    let start = (goal.at.returns c).Start in
     let e : c.loop-j.j ≡ c.args.m = omega arith in
-    let W : Passed c.args.m (at c.args.rs.now) c.args.rc.now (λ r. row_of (P (goal.at.returns c).Start) r c.args.m) c.loop-j.next = rw e at c.loop-j.invariant.2 in
-    told_as (λ ends. (ends_turned (P (goal.at.returns c).Start) c.requires.1 c.requires.2 W ends, (λ y h. c.loop-j.invariant.3 y (omega arith)), c.loop-j.invariant.2.cursors.long, c.loop-j.invariant.1))
-    (λ n all. n (turned_ends (P (goal.at.returns c).Start) c.requires.1 c.requires.2 W all)) c.all_met.ensures
+    let W : Passed c.args.m (at c.args.rs.now) c.args.rc.now (λ r. row_of (P start) r c.args.m) c.loop-j.next = rw e at c.loop-j.invariant.2 in
+    told_as (λ ends. (ends_turned (P start) c.requires.1 c.requires.2 W ends, (λ y h. c.loop-j.invariant.3 y (omega arith)), c.loop-j.invariant.2.cursors.long, c.loop-j.invariant.1))
+    (λ n all. n (turned_ends (P start) c.requires.1 c.requires.2 W all)) c.all_met.ensures

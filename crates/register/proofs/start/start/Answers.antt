@@ -20,8 +20,9 @@ module _ (c : In-Sound) where
 
 pub turn-requires : goal.turn-requires
 turn-requires c =
-    let p = passed (goal.at.turn-requires c).In-Sound in
-    (start_good (m (goal.at.turn-requires c).In-Sound) (l (goal.at.turn-requires c).In-Sound) p.sized p.takes p.formed, omega (arith, p.takes.row_starts_fit), omega (arith, p.takes.row_cols_fit))
+    let in_Sound = (goal.at.turn-requires c).In-Sound in
+    let p = passed in_Sound in
+    (start_good (m in_Sound) (l in_Sound) p.sized p.takes p.formed, omega (arith, p.takes.row_starts_fit), omega (arith, p.takes.row_cols_fit))
 
 pub lay_own-requires : goal.lay_own-requires
 lay_own-requires c = let p = passed (goal.at.lay_own-requires c).In-Sound in (p.sized.1, omega (arith, p.takes.order_rows_fit))
@@ -31,9 +32,10 @@ lay_own-requires-in-Sound c = let p = passed (goal.at.lay_own-requires-in-Sound 
 
 pub returns-in-Sound : goal.returns-in-Sound
 returns-in-Sound c =
+    let in_Sound = (goal.at.returns-in-Sound c).In-Sound in
     let t = c.turn.ensures in
     rw c.in-Sound.is
-    (started_right (m (goal.at.returns-in-Sound c).In-Sound) (l (goal.at.returns-in-Sound c).In-Sound) (passed (goal.at.returns-in-Sound c).In-Sound) (cc (t.starts_after, t.entries_after, c.lay_own.ensures, c.lay_own-in-Sound.ensures)))
+    (started_right (m in_Sound) (l in_Sound) (passed in_Sound) (cc (t.starts_after, t.entries_after, c.lay_own.ensures, c.lay_own-in-Sound.ensures)))
 
 pub returns-in_default : goal.returns-in_default
 returns-in_default c =

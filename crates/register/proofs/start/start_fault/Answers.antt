@@ -28,39 +28,54 @@ module _ (c : After-takes) where
   answered = rw (← c.wide.ensures) c.takes.ensures
 
 pub returns-then-not-takes : goal.returns-then-not-takes
-returns-then-not-takes c = holds (sized (goal.at.returns-then-not-takes c).After-takes) (fails (refuted (answered (goal.at.returns-then-not-takes c).After-takes) c.if-not-takes.true) refl)
+returns-then-not-takes c =
+    let after_takes = (goal.at.returns-then-not-takes c).After-takes in
+    holds (sized after_takes) (fails (refuted (answered after_takes) c.if-not-takes.true) refl)
 
 pub formed-requires : goal.formed-requires
-formed-requires c = let t = shown (answered (goal.at.formed-requires c).After-takes) c.if-not-takes.false in record { starts_long = t.col_starts_fit; entries_long = t.col_rows_fit }
+formed-requires c = let t = shown (answered (goal.at.formed-requires c).After-takes) c.if-not-takes.false in record {
+  starts_long = t.col_starts_fit;
+  entries_long = t.col_rows_fit;
+}
 
 -- The listing is well formed.
 module _ (c : Else-not-formed) where
-  takes_it : StartTakes (m (goal.at.Else-not-formed c).After-takes) (l (goal.at.Else-not-formed c).After-takes)
-  takes_it = shown (answered (goal.at.Else-not-formed c).After-takes) c.if-not-takes.false
+  abbrev after_takes : After-takes
+  after_takes = (goal.at.Else-not-formed c).After-takes
 
-  well_formed : Listing (m (goal.at.Else-not-formed c).After-takes) (l (goal.at.Else-not-formed c).After-takes).col_starts (l (goal.at.Else-not-formed c).After-takes).col_rows
+  takes_it : StartTakes (m after_takes) (l after_takes)
+  takes_it = shown (answered after_takes) c.if-not-takes.false
+
+  well_formed : Listing (m after_takes) (l after_takes).col_starts (l after_takes).col_rows
   well_formed = shown c.formed.ensures c.if-not-formed.false
 
 pub returns-then-not-formed : goal.returns-then-not-formed
 returns-then-not-formed c =
-    holds (sized (goal.at.returns-then-not-formed c).After-takes) (holds (shown (answered (goal.at.returns-then-not-formed c).After-takes) c.if-not-takes.false) (fails (refuted c.formed.ensures c.if-not-formed.true) refl))
+    let after_takes = (goal.at.returns-then-not-formed c).After-takes in
+    holds (sized after_takes) (holds (shown (answered after_takes) c.if-not-takes.false) (fails (refuted c.formed.ensures c.if-not-formed.true) refl))
 
 pub sound-requires : goal.sound-requires
 sound-requires c =
+    let after_takes = (goal.at.sound-requires c).After-takes in
+    let else_not_formed = (goal.at.sound-requires c).Else-not-formed in
     let n = c.fresh_order-order.ensures.long in
-    (start_good (m (goal.at.sound-requires c).After-takes) (l (goal.at.sound-requires c).After-takes) (sized (goal.at.sound-requires c).After-takes) (takes_it (goal.at.sound-requires c).Else-not-formed) (well_formed (goal.at.sound-requires c).Else-not-formed), omega (arith, n), omega (arith, n))
+    (start_good (m after_takes) (l after_takes) (sized after_takes) (takes_it else_not_formed) (well_formed else_not_formed), omega (arith, n), omega (arith, n))
 
 pub returns-then-not-sound : goal.returns-then-not-sound
 returns-then-not-sound c =
-    holds (sized (goal.at.returns-then-not-sound c).After-takes)
-    (holds (takes_it (goal.at.returns-then-not-sound c).Else-not-formed)
-    (holds (well_formed (goal.at.returns-then-not-sound c).Else-not-formed) (fails (λ s. refuted c.sound.ensures c.if-not-sound.true (sound_fresh (m (goal.at.returns-then-not-sound c).After-takes) (l (goal.at.returns-then-not-sound c).After-takes) (sized (goal.at.returns-then-not-sound c).After-takes).1 c.fresh_order-order.ensures s)) refl)))
+    let after_takes = (goal.at.returns-then-not-sound c).After-takes in
+    let else_not_formed = (goal.at.returns-then-not-sound c).Else-not-formed in
+    holds (sized after_takes)
+    (holds (takes_it else_not_formed)
+    (holds (well_formed else_not_formed) (fails (λ s. refuted c.sound.ensures c.if-not-sound.true (sound_fresh (m after_takes) (l after_takes) (sized after_takes).1 c.fresh_order-order.ensures s)) refl)))
 
 pub returns : goal.returns
 returns c =
-    holds (sized (goal.at.returns c).After-takes)
-    (holds (takes_it (goal.at.returns c).Else-not-formed)
-    (holds (well_formed (goal.at.returns c).Else-not-formed) (holds (fresh_sound (m (goal.at.returns c).After-takes) (l (goal.at.returns c).After-takes) (sized (goal.at.returns c).After-takes).1 c.fresh_order-order.ensures (shown c.sound.ensures c.if-not-sound.false)) refl)))
+    let after_takes = (goal.at.returns c).After-takes in
+    let else_not_formed = (goal.at.returns c).Else-not-formed in
+    holds (sized after_takes)
+    (holds (takes_it else_not_formed)
+    (holds (well_formed else_not_formed) (holds (fresh_sound (m after_takes) (l after_takes) (sized after_takes).1 c.fresh_order-order.ensures (shown c.sound.ensures c.if-not-sound.false)) refl)))
 
 pub returns-then-m-eq0 : goal.returns-then-m-eq0
 returns-then-m-eq0 c = fails (λ p. omega arith) refl

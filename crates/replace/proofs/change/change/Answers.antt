@@ -29,17 +29,27 @@ bounds-old-c c = omega (arith, c.requires.judgeable.0.column_below, c.requires.j
 
 pub judge-judgment-requires : goal.judge-judgment-requires
 judge-judgment-requires c =
-    record { judgeable = c.requires.judgeable; p_value = (p_is (goal.at.judge-judgment-requires c).Start c.wide-p.ensures, c.requires.work_len.1, c.requires.work_len.2, c.requires.work_len.0) }
+    record {
+      judgeable = c.requires.judgeable;
+      p_value = (p_is (goal.at.judge-judgment-requires c).Start c.wide-p.ensures, c.requires.work_len.1, c.requires.work_len.2, c.requires.work_len.0);
+    }
 
 pub permute-requires : goal.permute-requires
 permute-requires c =
     let k = told_permuted c.in-Permuted.is c.judge-judgment.ensures.judges in
-    record { judgeable = (judgeable_with c.requires.judgeable.0 [], c.requires.new_fits); work_len = (c.judge-judgment.ensures.places_len.1, placed_below k.rows_placed, placed_below k.cols_placed) }
+    record {
+      judgeable = (judgeable_with c.requires.judgeable.0 [], c.requires.new_fits);
+      work_len = (c.judge-judgment.ensures.places_len.1, placed_below k.rows_placed, placed_below k.cols_placed);
+    }
 
 pub clear-requires : goal.clear-requires
 clear-requires c =
     let k = told_elimination c.in-Elimination.is c.judge-judgment.ensures.judges in
-    record { judgeable = (judgeable_with c.requires.judgeable.0 [], c.requires.new_fits); not_no_choice = k.right.not_singular; p_value = (p_is (goal.at.clear-requires c).Start c.wide-p.ensures, c.judge-judgment.ensures.places_len.1, c.judge-judgment.ensures.places_len.0) }
+    record {
+      judgeable = (judgeable_with c.requires.judgeable.0 [], c.requires.new_fits);
+      not_no_choice = k.right.not_singular;
+      p_value = (p_is (goal.at.clear-requires c).Start c.wide-p.ensures, c.judge-judgment.ensures.places_len.1, c.judge-judgment.ensures.places_len.0);
+    }
 
 pub returns-in-Singular : goal.returns-in-Singular
 returns-in-Singular c =

@@ -58,17 +58,22 @@ rows_are c =
     c.first.ensures ∙ joined_read _ (J (goal.at.After-first c).Start).new_rise (r_below (goal.at.After-first c).Start c.wide-r.ensures) (J (goal.at.After-first c).Start).sound.sized.1 c.join-n.ensures.0 c.join-n.ensures.1
 
 pub offset_bounds-or-p : goal.offset_bounds-or-p
-offset_bounds-or-p c = omega (arith, p_in (goal.at.offset_bounds-or-p c).Start, (J (goal.at.offset_bounds-or-p c).Start).sound.sized)
+offset_bounds-or-p c =
+    let start = (goal.at.offset_bounds-or-p c).Start in
+    omega (arith, p_in start, (J start).sound.sized)
 
 pub bounds-or-p : goal.bounds-or-p
-bounds-or-p c = omega (arith, p_in (goal.at.bounds-or-p c).Start, (J (goal.at.bounds-or-p c).Start).sound.long.order_rows_fit)
+bounds-or-p c =
+    let start = (goal.at.bounds-or-p c).Start in
+    omega (arith, p_in start, (J start).sound.long.order_rows_fit)
 
 pub join-n-requires : goal.join-n-requires
-join-n-requires c = (
-  record { below = λ i h. omega (arith, (J (goal.at.join-n-requires c).Start).new_rise.below i h, (J (goal.at.join-n-requires c).Start).sound.sized); rises = (J (goal.at.join-n-requires c).Start).new_rise.rises },
-  omega (arith, r_below (goal.at.join-n-requires c).Start c.wide-r.ensures, (J (goal.at.join-n-requires c).Start).sound.sized),
-  omega (arith, c.requires.p_value.2),
-)
+join-n-requires c =
+    let start = (goal.at.join-n-requires c).Start in (
+      record { below = λ i h. omega (arith, (J start).new_rise.below i h, (J start).sound.sized); rises = (J start).new_rise.rises },
+      omega (arith, r_below start c.wide-r.ensures, (J start).sound.sized),
+      omega (arith, c.requires.p_value.2),
+    )
 
 pub first-requires : goal.first-requires
 first-requires c =
@@ -76,16 +81,27 @@ first-requires c =
 
 pub store-requires : goal.store-requires
 store-requires c =
-    let S = (J (goal.at.store-requires c).Start).sound in
-    let R = cleared_room (J (goal.at.store-requires c).Start) (r_is (goal.at.store-requires c).Start c.wide-r.ensures) (rows_are (goal.at.store-requires c).After-first) c.requires.judgeable.1 c.requires.not_no_choice in
-    record { good = (columns_good S, rows_good S, S.agree, (J (goal.at.store-requires c).Start).column_below, rw (rows_are (goal.at.store-requires c).After-first) (joined_rises (a (goal.at.store-requires c).Start).size c.wide-r.result (a (goal.at.store-requires c).Start).new_rows)); entry = (λ h. r_paired (goal.at.store-requires c).Start c.wide-r.ensures, c.requires.p_value.1); m_bound = (R.few, R.in_columns, R.in_rows) }
+    let start = (goal.at.store-requires c).Start in
+    let after_first = (goal.at.store-requires c).After-first in
+    let S = (J start).sound in
+    let R = cleared_room (J start) (r_is start c.wide-r.ensures) (rows_are after_first) c.requires.judgeable.1 c.requires.not_no_choice in
+    record {
+      good = (columns_good S, rows_good S, S.agree, (J start).column_below, rw (rows_are after_first) (joined_rises (a start).size c.wide-r.result (a start).new_rows));
+      entry = (λ h. r_paired start c.wide-r.ensures, c.requires.p_value.1);
+      m_bound = (R.few, R.in_columns, R.in_rows);
+    }
 
 pub move_last-requires : goal.move_last-requires
-move_last-requires c = (p_in (goal.at.move_last-requires c).Start, (J (goal.at.move_last-requires c).Start).sound.long.order_rows_fit)
+move_last-requires c =
+    let start = (goal.at.move_last-requires c).Start in
+    (p_in start, (J start).sound.long.order_rows_fit)
 
 pub move_last-requires-2 : goal.move_last-requires-2
-move_last-requires-2 c = (p_in (goal.at.move_last-requires-2 c).Start, (J (goal.at.move_last-requires-2 c).Start).sound.long.order_cols_fit)
+move_last-requires-2 c =
+    let start = (goal.at.move_last-requires-2 c).Start in
+    (p_in start, (J start).sound.long.order_cols_fit)
 
 pub returns : goal.returns
 returns c =
-    cleared_stored (J (goal.at.returns c).Start) (r_is (goal.at.returns c).Start c.wide-r.ensures) (rows_are (goal.at.returns c).After-first) c.args.p c.store.ensures.held c.store.ensures.held_2 c.move_last.ensures c.move_last-2.ensures
+    let start = (goal.at.returns c).Start in
+    cleared_stored (J start) (r_is start c.wide-r.ensures) (rows_are (goal.at.returns c).After-first) c.args.p c.store.ensures.held c.store.ensures.held_2 c.move_last.ensures c.move_last-2.ensures

@@ -9,7 +9,11 @@ pub store-requires : goal.store-requires
 store-requires c =
     let J = c.requires.judgeable.0 in
     let R = spiked_room J c.requires.judgeable.1 in
-    record { good = (columns_good J.sound, rows_good J.sound, J.sound.agree, J.column_below, J.new_rise); entry = (λ h. absurd (omega (arith, h)), c.requires.work_len.0); m_bound = (R.few, R.in_columns, R.in_rows) }
+    record {
+      good = (columns_good J.sound, rows_good J.sound, J.sound.agree, J.column_below, J.new_rise);
+      entry = (λ h. absurd (omega (arith, h)), c.requires.work_len.0);
+      m_bound = (R.few, R.in_columns, R.in_rows);
+    }
 
 pub lay_order-requires : goal.lay_order-requires
 lay_order-requires c =

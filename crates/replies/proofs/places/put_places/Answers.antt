@@ -28,11 +28,13 @@ module _ (w : In-loop-t) where
 
 pub put_place-at-requires : goal.put_place-at-requires
 put_place-at-requires c =
-    omega (arith, putting_room c.loop-t.invariant (0, 0) (within (goal.at.put_place-at-requires c).In-loop-t) c.requires.2, ap (λ (x : ℕ × ℕ). length (place_text 0 x)) (met (goal.at.put_place-at-requires c).In-loop-t))
+    let in_loop_t = (goal.at.put_place-at-requires c).In-loop-t in
+    omega (arith, putting_room c.loop-t.invariant (0, 0) (within in_loop_t) c.requires.2, ap (λ (x : ℕ × ℕ). length (place_text 0 x)) (met in_loop_t))
 
 pub loop-t-preserved : goal.loop-t-preserved
 loop-t-preserved c =
-    putting_more c.loop-t.invariant (0, 0) (within (goal.at.loop-t-preserved c).In-loop-t) c.requires.2 (rw (met (goal.at.loop-t-preserved c).In-loop-t) c.put_place-at.ensures)
+    let in_loop_t = (goal.at.loop-t-preserved c).In-loop-t in
+    putting_more c.loop-t.invariant (0, 0) (within in_loop_t) c.requires.2 (rw (met in_loop_t) c.put_place-at.ensures)
 
 pub returns : goal.returns
 returns c =

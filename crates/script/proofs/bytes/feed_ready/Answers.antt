@@ -18,8 +18,9 @@ module _ (c : Else-not-goes_on) where
 
 pub byte-step-requires : goal.byte-step-requires
 byte-step-requires c =
+    let else_not_goes_on = (goal.at.byte-step-requires c).Else-not-goes_on in
     let k = c.loop-i.invariant in
-    (k.ready.roomy, taken_asks k (within (goal.at.byte-step-requires c).Else-not-goes_on) (goes (goal.at.byte-step-requires c).Else-not-goes_on), k.ready.turn_right, (goes (goal.at.byte-step-requires c).Else-not-goes_on).0)
+    (k.ready.roomy, taken_asks k (within else_not_goes_on) (goes else_not_goes_on), k.ready.turn_right, (goes else_not_goes_on).0)
 
 pub overflow_add-i : goal.overflow_add-i
 overflow_add-i c = omega (arith, within (goal.at.overflow_add-i c).Else-not-goes_on, c.requires.countable)
@@ -29,7 +30,8 @@ loop-i-smaller c = omega (arith, within (goal.at.loop-i-smaller c).Else-not-goes
 
 pub loop-i-preserved : goal.loop-i-preserved
 loop-i-preserved c =
-    taken_more c.loop-i.invariant (within (goal.at.loop-i-preserved c).Else-not-goes_on) (goes (goal.at.loop-i-preserved c).Else-not-goes_on) c.byte-step.ensures
+    let else_not_goes_on = (goal.at.loop-i-preserved c).Else-not-goes_on in
+    taken_more c.loop-i.invariant (within else_not_goes_on) (goes else_not_goes_on) c.byte-step.ensures
     (record {
       col_starts = search rules;
       col_rows = search rules;

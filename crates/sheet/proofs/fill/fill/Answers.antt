@@ -35,57 +35,73 @@ module _ (s : Start) where
 
 -- Once the size has been read.
 module _ (c : After-known-m) where
+  abbrev start : Start
+  start = (goal.at.After-known-m c).Start
+
   abbrev m : ℕ
   m = c.known-m.result.value
 
-  size_read : size_at (bytes (goal.at.After-known-m c).Start) 0 ≡ got m c.known-m.result.next
-  size_read = number_again (bytes (goal.at.After-known-m c).Start) size_test 1 0 (lies (goal.at.After-known-m c).Start).2.size_read c.known-m.ensures
+  size_read : size_at (bytes start) 0 ≡ got m c.known-m.result.next
+  size_read = number_again (bytes start) size_test 1 0 (lies start).2.size_read c.known-m.ensures
 
-  size_is : m ≡ (x (goal.at.After-known-m c).Start).size
-  size_is = size_found (lies (goal.at.After-known-m c).Start).2 size_read
+  size_is : m ≡ (x start).size
+  size_is = size_found (lies start).2 size_read
 
   small : m ≤ max_size
-  small = omega (arith, size_is, (record_well (lies (goal.at.After-known-m c).Start).2).sized.1)
+  small = omega (arith, size_is, (record_well (lies start).2).sized.1)
 
-  columns_are : thing [] (columns_at (bytes (goal.at.After-known-m c).Start) m c.known-m.result.next) ≡ (x (goal.at.After-known-m c).Start).columns
-  columns_are = thing_is [] (columns_found (lies (goal.at.After-known-m c).Start).2 size_read)
+  columns_are : thing [] (columns_at (bytes start) m c.known-m.result.next) ≡ (x start).columns
+  columns_are = thing_is [] (columns_found (lies start).2 size_read)
 
-  formed : Columns m (x (goal.at.After-known-m c).Start).columns
-  formed = columns_formed (bytes (goal.at.After-known-m c).Start) m c.known-m.result.next (columns_found (lies (goal.at.After-known-m c).Start).2 size_read)
+  formed : Columns m (x start).columns
+  formed = columns_formed (bytes start) m c.known-m.result.next (columns_found (lies start).2 size_read)
 
-  room : RoomFor m (x (goal.at.After-known-m c).Start).columns c.args.cs.now c.args.cr.now
+  room : RoomFor m (x start).columns c.args.cs.now c.args.cr.now
   room = record { size = formed.size; starts_fit = omega (arith, size_is, c.requires.1.col_starts_fit); entries_fit = c.requires.1.col_rows_fit }
 
 -- Once the columns stand in their lists.
 module _ (c : After-fill_columns-order) where
-  order_read : order_at (bytes (goal.at.After-fill_columns-order c).Start) (m (goal.at.After-fill_columns-order c).After-known-m) c.fill_columns-order.result ≡ got (x (goal.at.After-fill_columns-order c).Start).order (length (bytes (goal.at.After-fill_columns-order c).Start))
-  order_read = order_found (lies (goal.at.After-fill_columns-order c).Start).2 (size_read (goal.at.After-fill_columns-order c).After-known-m) c.fill_columns-order.ensures.0
+  abbrev after_known_m : After-known-m
+  after_known_m = (goal.at.After-fill_columns-order c).After-known-m
 
-  held : Held (x (goal.at.After-fill_columns-order c).Start).columns c.args.cs.now c.args.cr.now c.fill_columns-order.new.cs c.fill_columns-order.new.cr
-  held = rw (columns_are (goal.at.After-fill_columns-order c).After-known-m) at c.fill_columns-order.ensures.1
+  abbrev start_of_fill_columns_order : Start
+  start_of_fill_columns_order = (goal.at.After-fill_columns-order c).Start
+
+  order_read : order_at (bytes start_of_fill_columns_order) (m after_known_m) c.fill_columns-order.result ≡ got (x start_of_fill_columns_order).order (length (bytes start_of_fill_columns_order))
+  order_read = order_found (lies start_of_fill_columns_order).2 (size_read after_known_m) c.fill_columns-order.ensures.0
+
+  held : Held (x start_of_fill_columns_order).columns c.args.cs.now c.args.cr.now c.fill_columns-order.new.cs c.fill_columns-order.new.cr
+  held = rw (columns_are after_known_m) at c.fill_columns-order.ensures.1
 
 pub known-m-requires : goal.known-m-requires
 known-m-requires c =
-    let g = size_got (bytes (goal.at.known-m-requires c).Start) 0 (lies (goal.at.known-m-requires c).Start).2.size_read in
-    short (bytes (goal.at.known-m-requires c).Start) 0 g.0 (omega (arith, g.2))
+    let start = (goal.at.known-m-requires c).Start in
+    let g = size_got (bytes start) 0 (lies start).2.size_read in
+    short (bytes start) 0 g.0 (omega (arith, g.2))
 
 pub fill_columns-order-requires : goal.fill_columns-order-requires
 fill_columns-order-requires c =
-    (small (goal.at.fill_columns-order-requires c).After-known-m, got_is [] (columns_found (lies (goal.at.fill_columns-order-requires c).Start).2 (size_read (goal.at.fill_columns-order-requires c).After-known-m)), (room (goal.at.fill_columns-order-requires c).After-known-m).starts_fit, omega (arith, (room (goal.at.fill_columns-order-requires c).After-known-m).entries_fit, ap (λ (P : List (List ℕ)). length (flat P)) (columns_are (goal.at.fill_columns-order-requires c).After-known-m)))
+    let after_known_m = (goal.at.fill_columns-order-requires c).After-known-m in
+    (small after_known_m, got_is [] (columns_found (lies (goal.at.fill_columns-order-requires c).Start).2 (size_read after_known_m)), (room after_known_m).starts_fit, omega (arith, (room after_known_m).entries_fit, ap (λ (P : List (List ℕ)). length (flat P)) (columns_are after_known_m)))
 
 pub fill_order-requires : goal.fill_order-requires
 fill_order-requires c =
-    (small (goal.at.fill_order-requires c).After-known-m, got_is [] (order_read (goal.at.fill_order-requires c).After-fill_columns-order), omega (arith, size_is (goal.at.fill_order-requires c).After-known-m, c.requires.1.order_rows_fit), omega (arith, size_is (goal.at.fill_order-requires c).After-known-m, c.requires.1.order_cols_fit))
+    let after_known_m = (goal.at.fill_order-requires c).After-known-m in
+    (small after_known_m, got_is [] (order_read (goal.at.fill_order-requires c).After-fill_columns-order), omega (arith, size_is after_known_m, c.requires.1.order_rows_fit), omega (arith, size_is after_known_m, c.requires.1.order_cols_fit))
 
 pub turn-requires : goal.turn-requires
-turn-requires c = (
-  stored_good (room (goal.at.turn-requires c).After-known-m) (held (goal.at.turn-requires c).After-fill_columns-order) (formed (goal.at.turn-requires c).After-known-m) (record_well (lies (goal.at.turn-requires c).Start).2).few (small (goal.at.turn-requires c).After-known-m),
-  omega (arith, size_is (goal.at.turn-requires c).After-known-m, c.requires.1.row_starts_fit),
-  omega (arith, stored_total (room (goal.at.turn-requires c).After-known-m) (held (goal.at.turn-requires c).After-fill_columns-order), c.requires.1.row_cols_fit),
-)
+turn-requires c =
+    let after_known_m = (goal.at.turn-requires c).After-known-m in
+    let after_fill_columns_order = (goal.at.turn-requires c).After-fill_columns-order in (
+      stored_good (room after_known_m) (held after_fill_columns_order) (formed after_known_m) (record_well (lies (goal.at.turn-requires c).Start).2).few (small after_known_m),
+      omega (arith, size_is after_known_m, c.requires.1.row_starts_fit),
+      omega (arith, stored_total (room after_known_m) (held after_fill_columns_order), c.requires.1.row_cols_fit),
+    )
 
 pub returns : goal.returns
 returns c =
-    let rows = stored_turned (room (goal.at.returns c).After-known-m) (held (goal.at.returns c).After-fill_columns-order) (size_is (goal.at.returns c).After-known-m) c.turn.ensures in
-    let order = thing_is [] (order_read (goal.at.returns c).After-fill_columns-order) in
-    cc ((held (goal.at.returns c).After-fill_columns-order).starts_after, (held (goal.at.returns c).After-fill_columns-order).entries_after, rows.starts_after, rows.entries_after, rw order at c.fill_order.ensures.0, rw order at c.fill_order.ensures.1)
+    let after_known_m = (goal.at.returns c).After-known-m in
+    let after_fill_columns_order = (goal.at.returns c).After-fill_columns-order in
+    let rows = stored_turned (room after_known_m) (held after_fill_columns_order) (size_is after_known_m) c.turn.ensures in
+    let order = thing_is [] (order_read after_fill_columns_order) in
+    cc ((held after_fill_columns_order).starts_after, (held after_fill_columns_order).entries_after, rows.starts_after, rows.entries_after, rw order at c.fill_order.ensures.0, rw order at c.fill_order.ensures.1)

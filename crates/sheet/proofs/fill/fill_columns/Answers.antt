@@ -36,17 +36,19 @@ known-n-requires c = count_known _ _ c.requires.0 c.loop-c.invariant.0 (omega ar
 
 pub fill_rows-at-requires : goal.fill_rows-at-requires
 fill_rows-at-requires c =
-    ((met (goal.at.fill_rows-at-requires c).After-known-n).rows_known, omega (arith, (met (goal.at.fill_rows-at-requires c).After-known-n).is, listed_room (room (goal.at.fill_rows-at-requires c).Start) c.loop-c.invariant.2 (omega arith)))
+    let after_known_n = (goal.at.fill_rows-at-requires c).After-known-n in
+    ((met after_known_n).rows_known, omega (arith, (met after_known_n).is, listed_room (room (goal.at.fill_rows-at-requires c).Start) c.loop-c.invariant.2 (omega arith)))
 
 pub overflow_add-entries : goal.overflow_add-entries
 overflow_add-entries c = let f = (met (goal.at.overflow_add-entries c).After-known-n).few in search rules
 
 pub loop-c-preserved : goal.loop-c-preserved
-loop-c-preserved c = (
-  (met (goal.at.loop-c-preserved c).After-known-n).left c.fill_rows-at.ensures.0,
-  (met (goal.at.loop-c-preserved c).After-known-n).few,
-  listed_more (room (goal.at.loop-c-preserved c).Start) c.loop-c.invariant.2 _ _ (omega arith) refl (met (goal.at.loop-c-preserved c).After-known-n).is (met (goal.at.loop-c-preserved c).After-known-n).rows_are c.fill_rows-at.ensures.1,
-)
+loop-c-preserved c =
+    let after_known_n = (goal.at.loop-c-preserved c).After-known-n in (
+      (met after_known_n).left c.fill_rows-at.ensures.0,
+      (met after_known_n).few,
+      listed_more (room (goal.at.loop-c-preserved c).Start) c.loop-c.invariant.2 _ _ (omega arith) refl (met after_known_n).is (met after_known_n).rows_are c.fill_rows-at.ensures.1,
+    )
 
 pub bounds-cs-m : goal.bounds-cs-m
 bounds-cs-m c = omega (arith, c.loop-c.invariant.2.starts_now.long, c.requires.2)

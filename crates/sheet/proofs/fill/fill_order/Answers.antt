@@ -50,12 +50,15 @@ pub bounds-cols-t : goal.bounds-cols-t
 bounds-cols-t c = omega (arith, c.requires.3, c.loop-t.invariant.2.long)
 
 pub loop-t-preserved : goal.loop-t-preserved
-loop-t-preserved c = (
-  (met (goal.at.loop-t-preserved c).After-known_pair-pair).left,
-  stored_more _ _ (omega (arith, rows_long (goal.at.loop-t-preserved c).At-loop-t)) (omega (arith, rows_long (goal.at.loop-t-preserved c).At-loop-t, c.requires.2)) (omega arith) (met (goal.at.loop-t-preserved c).After-known_pair-pair).row_is c.loop-t.invariant.1,
-  stored_more _ _ (omega (arith, cols_long (goal.at.loop-t-preserved c).At-loop-t)) (omega (arith, cols_long (goal.at.loop-t-preserved c).At-loop-t, c.requires.3)) (omega arith) (met (goal.at.loop-t-preserved c).After-known_pair-pair).column_is c.loop-t.invariant.2,
-)
+loop-t-preserved c =
+    let after_known_pair_pair = (goal.at.loop-t-preserved c).After-known_pair-pair in
+    let at_loop_t = (goal.at.loop-t-preserved c).At-loop-t in (
+      (met after_known_pair_pair).left,
+      stored_more _ _ (omega (arith, rows_long at_loop_t)) (omega (arith, rows_long at_loop_t, c.requires.2)) (omega arith) (met after_known_pair_pair).row_is c.loop-t.invariant.1,
+      stored_more _ _ (omega (arith, cols_long at_loop_t)) (omega (arith, cols_long at_loop_t, c.requires.3)) (omega arith) (met after_known_pair_pair).column_is c.loop-t.invariant.2,
+    )
 
 pub returns : goal.returns
 returns c =
-    (stored_all (omega (arith, rows_long (goal.at.returns c).At-loop-t)) c.loop-t.invariant.1, stored_all (omega (arith, cols_long (goal.at.returns c).At-loop-t)) c.loop-t.invariant.2)
+    let at_loop_t = (goal.at.returns c).At-loop-t in
+    (stored_all (omega (arith, rows_long at_loop_t)) c.loop-t.invariant.1, stored_all (omega (arith, cols_long at_loop_t)) c.loop-t.invariant.2)

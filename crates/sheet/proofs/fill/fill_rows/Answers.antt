@@ -41,8 +41,9 @@ overflow_add-least c = let b = (met (goal.at.overflow_add-least c).After-known-g
 
 pub loop-i-preserved : goal.loop-i-preserved
 loop-i-preserved c =
+    let after_known_gap = (goal.at.loop-i-preserved c).After-known-gap in
     let long = left_long c.loop-i.invariant.0 in
-    ((met (goal.at.loop-i-preserved c).After-known-gap).left, stored_more _ _ (omega (arith, long)) (omega (arith, long, c.requires.1)) refl (met (goal.at.loop-i-preserved c).After-known-gap).is c.loop-i.invariant.1)
+    ((met after_known_gap).left, stored_more _ _ (omega (arith, long)) (omega (arith, long, c.requires.1)) refl (met after_known_gap).is c.loop-i.invariant.1)
 
 pub returns : goal.returns
 returns c =

@@ -26,14 +26,17 @@ pub overflow_cast-result : goal.overflow_cast-result
 overflow_cast-result c = omega (arith, c.type_inv.bytes (p (goal.at.overflow_cast-result c).Start))
 
 pub returns-then-place-bytes : goal.returns-then-place-bytes
-returns-then-place-bytes c = last_read (bytes (goal.at.returns-then-place-bytes c).Start) (p (goal.at.returns-then-place-bytes c).Start) (few (goal.at.returns-then-place-bytes c).Start (λ i h. (c.type_inv.bytes i).fits)) c.if-place-bytes.true
+returns-then-place-bytes c =
+    let start = (goal.at.returns-then-place-bytes c).Start in
+    last_read (bytes start) (p start) (few start (λ i h. (c.type_inv.bytes i).fits)) c.if-place-bytes.true
 
 pub few_groups-requires : goal.few_groups-requires
 few_groups-requires c = omega (arith, (few (goal.at.few_groups-requires c).Start (λ i h. (c.type_inv.bytes i).fits)).inside)
 
 pub returns : goal.returns
 returns c =
-    let small : Bytes (bytes (goal.at.returns c).Start) = λ i h. (c.type_inv.bytes i).fits in
-    let few = few (goal.at.returns c).Start small in
-    few_read (bytes (goal.at.returns c).Start) (p (goal.at.returns c).Start) few (small (p (goal.at.returns c).Start) few.inside)
+    let start = (goal.at.returns c).Start in
+    let small : Bytes (bytes start) = λ i h. (c.type_inv.bytes i).fits in
+    let few = few start small in
+    few_read (bytes start) (p start) few (small (p start) few.inside)
     ∙ ap₂ (λ (v n : ℕ). got v n) (sym c.few_groups.ensures.0) (sym c.few_groups.ensures.1)

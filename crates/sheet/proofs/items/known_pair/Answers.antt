@@ -27,22 +27,29 @@ module _ (s : Start) where
 
 -- Once the row has been read again: the column is the one after it.
 module _ (c : After-known-row) where
-  row : member_at (bytes (goal.at.After-known-row c).Start) max_size c.args.place ≡ got c.known-row.result.value c.known-row.result.next
-  row = number_again (bytes (goal.at.After-known-row c).Start) (λ v. ltb v max_size) 11 c.args.place (read (goal.at.After-known-row c).Start).row_read c.known-row.ensures
+  abbrev start : Start
+  start = (goal.at.After-known-row c).Start
 
-  column : member_at (bytes (goal.at.After-known-row c).Start) max_size c.known-row.result.next ≡ got (pair (goal.at.After-known-row c).Start).1 c.requires.next
-  column = ap (member_at (bytes (goal.at.After-known-row c).Start) max_size) (next_same (sym row ∙ (read (goal.at.After-known-row c).Start).row_read)) ∙ (read (goal.at.After-known-row c).Start).column_read
+  row : member_at (bytes start) max_size c.args.place ≡ got c.known-row.result.value c.known-row.result.next
+  row = number_again (bytes start) (λ v. ltb v max_size) 11 c.args.place (read start).row_read c.known-row.ensures
+
+  column : member_at (bytes start) max_size c.known-row.result.next ≡ got (pair start).1 c.requires.next
+  column = ap (member_at (bytes start) max_size) (next_same (sym row ∙ (read start).row_read)) ∙ (read start).column_read
 
 -- A row or a column of the order has one group or two.
 member_short : (bytes : List ℕ) (p : ℕ) {v next : ℕ} → member_at bytes max_size p ≡ got v next → Short bytes p
 member_short bytes p e = let g = member_got bytes max_size p e in short bytes p g.0 (omega (arith, g.1))
 
 pub known-row-requires : goal.known-row-requires
-known-row-requires c = member_short (bytes (goal.at.known-row-requires c).Start) c.args.place (read (goal.at.known-row-requires c).Start).row_read
+known-row-requires c =
+    let start = (goal.at.known-row-requires c).Start in
+    member_short (bytes start) c.args.place (read start).row_read
 
 pub known-column-requires : goal.known-column-requires
 known-column-requires c = member_short (bytes (goal.at.known-column-requires c).Start) c.known-row.result.next (column (goal.at.known-column-requires c).After-known-row)
 
 pub returns : goal.returns
 returns c =
-    pair_both (bytes (goal.at.returns c).Start) max_size 0 c.args.place (row (goal.at.returns c).After-known-row) (number_again (bytes (goal.at.returns c).Start) (λ v. ltb v max_size) 11 c.known-row.result.next (column (goal.at.returns c).After-known-row) c.known-column.ensures)
+    let start = (goal.at.returns c).Start in
+    let after_known_row = (goal.at.returns c).After-known-row in
+    pair_both (bytes start) max_size 0 c.args.place (row after_known_row) (number_again (bytes start) (λ v. ltb v max_size) 11 c.known-row.result.next (column after_known_row) c.known-column.ensures)

@@ -29,8 +29,11 @@ overflow_add-result c =
 
 pub overflow_add-result-2 : goal.overflow_add-result-2
 overflow_add-result-2 c =
+    let after_measure_order = (goal.at.overflow_add-result-2 c).After-measure_order in
     omega
-    (arith, size_width (goal.at.overflow_add-result-2 c).After-measure_order, columns_width (goal.at.overflow_add-result-2 c).After-measure_order, order_width (goal.at.overflow_add-result-2 c).After-measure_order, groups_few c.args.size, columns_few c.requires.1, order_few c.args.size c.args.or.now c.args.oc.now c.requires.0.1)
+    (arith, size_width after_measure_order, columns_width after_measure_order, order_width after_measure_order, groups_few c.args.size, columns_few c.requires.1, order_few c.args.size c.args.or.now c.args.oc.now c.requires.0.1)
 
 pub returns : goal.returns
-returns c = omega (arith, size_width (goal.at.returns c).After-measure_order, columns_width (goal.at.returns c).After-measure_order, order_width (goal.at.returns c).After-measure_order, sheet_length (its (goal.at.returns c).After-measure_order))
+returns c =
+    let after_measure_order = (goal.at.returns c).After-measure_order in
+    omega (arith, size_width after_measure_order, columns_width after_measure_order, order_width after_measure_order, sheet_length (its after_measure_order))

@@ -27,13 +27,16 @@ module _ (c : After-look-rows) where
 
 -- And are measured.
 module _ (c : After-measure_rows) where
+  abbrev after_look_rows : After-look-rows
+  after_look_rows = (goal.at.After-measure_rows c).After-look-rows
+
   abbrev n : ℕ
   n = c.loop-c.n + (c.width.result + c.measure_rows.result)
 
-  again : Measured column_bytes grown (columns (goal.at.After-measure_rows c).After-look-rows) (c.loop-c.c + 1) (grown c.loop-c.invariant.0 (column (columns (goal.at.After-measure_rows c).After-look-rows) c.loop-c.c)) n
+  again : Measured column_bytes grown (columns after_look_rows) (c.loop-c.c + 1) (grown c.loop-c.invariant.0 (column (columns after_look_rows) c.loop-c.c)) n
   again =
       measured_more c.loop-c.invariant.1 [] (omega (arith, c.loop-c-test.true, parts_length c.args.size c.args.cs.now c.args.cr.now))
-      (rw (← (seen (goal.at.After-measure_rows c).After-look-rows).is_column) (omega (arith, c.width.ensures, c.measure_rows.ensures, length-append (groups (length (rows (goal.at.After-measure_rows c).After-look-rows))) (rows_bytes (rows (goal.at.After-measure_rows c).After-look-rows)))))
+      (rw (← (seen after_look_rows).is_column) (omega (arith, c.width.ensures, c.measure_rows.ensures, length-append (groups (length (rows after_look_rows))) (rows_bytes (rows after_look_rows)))))
 
   short : n ≤ 26000
   short = omega (arith, again.so, gone_length again, columns_few c.requires.1)

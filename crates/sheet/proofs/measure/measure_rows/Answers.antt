@@ -27,8 +27,11 @@ module _ (c : In-loop-k) where
 
 -- It is measured.
 module _ (c : After-width-n) where
-  again : Measured row_bytes past (rows (goal.at.After-width-n c).In-loop-k) (c.loop-k.k + 1) (at (rows (goal.at.After-width-n c).In-loop-k) c.loop-k.k + 1) (c.loop-k.n + c.width-n.result)
-  again = measured_more c.loop-k.invariant.1 0 (within (goal.at.After-width-n c).In-loop-k) c.width-n.ensures
+  abbrev in_loop_k : In-loop-k
+  in_loop_k = (goal.at.After-width-n c).In-loop-k
+
+  again : Measured row_bytes past (rows in_loop_k) (c.loop-k.k + 1) (at (rows in_loop_k) c.loop-k.k + 1) (c.loop-k.n + c.width-n.result)
+  again = measured_more c.loop-k.invariant.1 0 (within in_loop_k) c.width-n.ensures
 
   short : c.loop-k.n + c.width-n.result ≤ 2000
   short = omega (arith, again.so, gone_length again, rows_few c.loop-k.invariant.0.rises, rising_few c.loop-k.invariant.0.rises)

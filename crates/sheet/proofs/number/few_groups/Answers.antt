@@ -34,10 +34,14 @@ pub overflow_mul-result : goal.overflow_mul-result
 overflow_mul-result c = omega (arith, b_small (goal.at.overflow_mul-result c).Start)
 
 pub overflow_mul-result-2 : goal.overflow_mul-result-2
-overflow_mul-result-2 c = omega (arith, b_small (goal.at.overflow_mul-result-2 c).Start, product (goal.at.overflow_mul-result-2 c).Start)
+overflow_mul-result-2 c =
+    let start = (goal.at.overflow_mul-result-2 c).Start in
+    omega (arith, b_small start, product start)
 
 pub overflow_add-result : goal.overflow_add-result
-overflow_add-result c = omega (arith, b_small (goal.at.overflow_add-result c).Start, product (goal.at.overflow_add-result c).Start)
+overflow_add-result c =
+    let start = (goal.at.overflow_add-result c).Start in
+    omega (arith, b_small start, product start)
 
 pub overflow_cast-result : goal.overflow_cast-result
 overflow_cast-result c = omega (arith, a_small (goal.at.overflow_cast-result c).Start)

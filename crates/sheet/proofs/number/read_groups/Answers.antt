@@ -28,24 +28,30 @@ module _ (c : Else-bytes-place) where
 
 -- It has its high bit set, and the second is there.
 module _ (c : Else-bytes-place-2) where
-  b_small : at (bytes (goal.at.Else-bytes-place-2 c).Else-bytes-place) (p (goal.at.Else-bytes-place-2 c).Else-bytes-place + 1) < 256
-  b_small = (c.type_inv.bytes (p (goal.at.Else-bytes-place-2 c).Else-bytes-place + 1)).fits
+  abbrev else_bytes_place : Else-bytes-place
+  else_bytes_place = (goal.at.Else-bytes-place-2 c).Else-bytes-place
 
-  a_more : ltb (at (bytes (goal.at.Else-bytes-place-2 c).Else-bytes-place) (p (goal.at.Else-bytes-place-2 c).Else-bytes-place)) 128 ≡ false
+  b_small : at (bytes else_bytes_place) (p else_bytes_place + 1) < 256
+  b_small = (c.type_inv.bytes (p else_bytes_place + 1)).fits
+
+  a_more : ltb (at (bytes else_bytes_place) (p else_bytes_place)) 128 ≡ false
   a_more = le-ltb _ _ c.if-a-lt128.false
 
-  second : ltb (p (goal.at.Else-bytes-place-2 c).Else-bytes-place + 1) (length (bytes (goal.at.Else-bytes-place-2 c).Else-bytes-place)) ≡ true
+  second : ltb (p else_bytes_place + 1) (length (bytes else_bytes_place)) ≡ true
   second = lt-ltb _ _ c.if-bytes-place-2.false
 
 -- That has it too, and the third is there.
 module _ (c : Else-bytes-place-3) where
-  c_small : at (bytes (goal.at.Else-bytes-place-3 c).Else-bytes-place) (p (goal.at.Else-bytes-place-3 c).Else-bytes-place + 2) < 256
-  c_small = (c.type_inv.bytes (p (goal.at.Else-bytes-place-3 c).Else-bytes-place + 2)).fits
+  abbrev else_bytes_place_of_bytes_place_3 : Else-bytes-place
+  else_bytes_place_of_bytes_place_3 = (goal.at.Else-bytes-place-3 c).Else-bytes-place
 
-  b_more : ltb (at (bytes (goal.at.Else-bytes-place-3 c).Else-bytes-place) (p (goal.at.Else-bytes-place-3 c).Else-bytes-place + 1)) 128 ≡ false
+  c_small : at (bytes else_bytes_place_of_bytes_place_3) (p else_bytes_place_of_bytes_place_3 + 2) < 256
+  c_small = (c.type_inv.bytes (p else_bytes_place_of_bytes_place_3 + 2)).fits
+
+  b_more : ltb (at (bytes else_bytes_place_of_bytes_place_3) (p else_bytes_place_of_bytes_place_3 + 1)) 128 ≡ false
   b_more = le-ltb _ _ c.if-b-lt128.false
 
-  third : ltb (p (goal.at.Else-bytes-place-3 c).Else-bytes-place + 2) (length (bytes (goal.at.Else-bytes-place-3 c).Else-bytes-place)) ≡ true
+  third : ltb (p else_bytes_place_of_bytes_place_3 + 2) (length (bytes else_bytes_place_of_bytes_place_3)) ≡ true
   third = lt-ltb _ _ c.if-bytes-place-3.false
 
 pub returns-then-bytes-place : goal.returns-then-bytes-place
@@ -72,12 +78,14 @@ overflow_add-a c = omega (arith, a_small (goal.at.overflow_add-a c).Else-bytes-p
 pub returns-then-b-lt128 : goal.returns-then-b-lt128
 unfolding number byte
 returns-then-b-lt128 c =
-    rw (first (goal.at.returns-then-b-lt128 c).Else-bytes-place, a_more (goal.at.returns-then-b-lt128 c).Else-bytes-place-2, second (goal.at.returns-then-b-lt128 c).Else-bytes-place-2, lt-ltb _ _ c.if-b-lt128.true) c.ended.ensures
+    let else_bytes_place_2 = (goal.at.returns-then-b-lt128 c).Else-bytes-place-2 in
+    rw (first (goal.at.returns-then-b-lt128 c).Else-bytes-place, a_more else_bytes_place_2, second else_bytes_place_2, lt-ltb _ _ c.if-b-lt128.true) c.ended.ensures
 
 pub returns-then-bytes-place-3 : goal.returns-then-bytes-place-3
 unfolding number byte
 returns-then-bytes-place-3 c =
-    rw (first (goal.at.returns-then-bytes-place-3 c).Else-bytes-place, a_more (goal.at.returns-then-bytes-place-3 c).Else-bytes-place-2, second (goal.at.returns-then-bytes-place-3 c).Else-bytes-place-2, le-ltb _ _ c.if-b-lt128.false, le-ltb _ _ c.if-bytes-place-3.true)
+    let else_bytes_place_2 = (goal.at.returns-then-bytes-place-3 c).Else-bytes-place-2 in
+    rw (first (goal.at.returns-then-bytes-place-3 c).Else-bytes-place, a_more else_bytes_place_2, second else_bytes_place_2, le-ltb _ _ c.if-b-lt128.false, le-ltb _ _ c.if-bytes-place-3.true)
 
 pub overflow_cast-c : goal.overflow_cast-c
 overflow_cast-c c = omega (arith, c_small (goal.at.overflow_cast-c c).Else-bytes-place-3)
@@ -94,9 +102,13 @@ overflow_add-a-then-c-lt128-2 c = omega (arith, a_small (goal.at.overflow_add-a-
 pub returns-then-c-lt128 : goal.returns-then-c-lt128
 unfolding number byte
 returns-then-c-lt128 c =
-    rw (first (goal.at.returns-then-c-lt128 c).Else-bytes-place, a_more (goal.at.returns-then-c-lt128 c).Else-bytes-place-2, second (goal.at.returns-then-c-lt128 c).Else-bytes-place-2, b_more (goal.at.returns-then-c-lt128 c).Else-bytes-place-3, third (goal.at.returns-then-c-lt128 c).Else-bytes-place-3, lt-ltb _ _ c.if-c-lt128.true) c.ended-then-c-lt128.ensures
+    let else_bytes_place_2 = (goal.at.returns-then-c-lt128 c).Else-bytes-place-2 in
+    let else_bytes_place_3 = (goal.at.returns-then-c-lt128 c).Else-bytes-place-3 in
+    rw (first (goal.at.returns-then-c-lt128 c).Else-bytes-place, a_more else_bytes_place_2, second else_bytes_place_2, b_more else_bytes_place_3, third else_bytes_place_3, lt-ltb _ _ c.if-c-lt128.true) c.ended-then-c-lt128.ensures
 
 pub returns : goal.returns
 unfolding number byte
 returns c =
-    rw (first (goal.at.returns c).Else-bytes-place, a_more (goal.at.returns c).Else-bytes-place-2, second (goal.at.returns c).Else-bytes-place-2, b_more (goal.at.returns c).Else-bytes-place-3, third (goal.at.returns c).Else-bytes-place-3, le-ltb _ _ c.if-c-lt128.false)
+    let else_bytes_place_2 = (goal.at.returns c).Else-bytes-place-2 in
+    let else_bytes_place_3 = (goal.at.returns c).Else-bytes-place-3 in
+    rw (first (goal.at.returns c).Else-bytes-place, a_more else_bytes_place_2, second else_bytes_place_2, b_more else_bytes_place_3, third else_bytes_place_3, le-ltb _ _ c.if-c-lt128.false)

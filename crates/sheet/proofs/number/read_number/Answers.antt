@@ -22,12 +22,14 @@ module _ (c : After-no_last) where
 
 pub overflow_mul-bytes : goal.overflow_mul-bytes
 overflow_mul-bytes c =
-    let b = at (bytes (goal.at.overflow_mul-bytes c).After-no_last) (p (goal.at.overflow_mul-bytes c).After-no_last + 1) in
-    let bit : c.no_last.result ≤ 1 = omega (arith, c.no_last.ensures, no_last_bit b (small (goal.at.overflow_mul-bytes c).After-no_last (p (goal.at.overflow_mul-bytes c).After-no_last + 1))) in
-    omega (arith, small (goal.at.overflow_mul-bytes c).After-no_last (p (goal.at.overflow_mul-bytes c).After-no_last), times_bit (at (bytes (goal.at.overflow_mul-bytes c).After-no_last) (p (goal.at.overflow_mul-bytes c).After-no_last) / 128) c.no_last.result bit)
+    let after_no_last = (goal.at.overflow_mul-bytes c).After-no_last in
+    let b = at (bytes after_no_last) (p after_no_last + 1) in
+    let bit : c.no_last.result ≤ 1 = omega (arith, c.no_last.ensures, no_last_bit b (small after_no_last (p after_no_last + 1))) in
+    omega (arith, small after_no_last (p after_no_last), times_bit (at (bytes after_no_last) (p after_no_last) / 128) c.no_last.result bit)
 
 pub returns : goal.returns
 returns c =
+    let after_no_last = (goal.at.returns c).After-no_last in
     let few = c.few_groups-few.ensures in
-    let none = ap (λ (n : ℕ). at (bytes (goal.at.returns c).After-no_last) (p (goal.at.returns c).After-no_last) / 128 * n) (sym c.no_last.ensures) ∙ c.if-bytes-place-ne0.false in
-    ap₂ got few.0 few.1 ∙ sym (number_few (bytes (goal.at.returns c).After-no_last) (p (goal.at.returns c).After-no_last) (omega arith) (small (goal.at.returns c).After-no_last (p (goal.at.returns c).After-no_last)) (small (goal.at.returns c).After-no_last (p (goal.at.returns c).After-no_last + 1)) none)
+    let none = ap (λ (n : ℕ). at (bytes after_no_last) (p after_no_last) / 128 * n) (sym c.no_last.ensures) ∙ c.if-bytes-place-ne0.false in
+    ap₂ got few.0 few.1 ∙ sym (number_few (bytes after_no_last) (p after_no_last) (omega arith) (small after_no_last (p after_no_last)) (small after_no_last (p after_no_last + 1)) none)

@@ -36,15 +36,18 @@ module _ (c : After-look-rows) where
 
 pub put-at-requires : goal.put-at-requires
 put-at-requires c =
-    (omega (arith, (seen (goal.at.put-at-requires c).After-look-rows).few), first_room c.loop-c.invariant.1 [] (within (goal.at.put-at-requires c).After-look-rows) c.requires.2 (groups (length (rows (goal.at.put-at-requires c).After-look-rows))) (rows_bytes (rows (goal.at.put-at-requires c).After-look-rows)) (two (goal.at.put-at-requires c).After-look-rows))
+    let after_look_rows = (goal.at.put-at-requires c).After-look-rows in
+    (omega (arith, (seen after_look_rows).few), first_room c.loop-c.invariant.1 [] (within after_look_rows) c.requires.2 (groups (length (rows after_look_rows))) (rows_bytes (rows after_look_rows)) (two after_look_rows))
 
 pub put_rows-at-requires : goal.put_rows-at-requires
 put_rows-at-requires c =
-    ((seen (goal.at.put_rows-at-requires c).After-look-rows).rises, second_room c.loop-c.invariant.1 [] (within (goal.at.put_rows-at-requires c).After-look-rows) c.requires.2 (groups (length (rows (goal.at.put_rows-at-requires c).After-look-rows))) (rows_bytes (rows (goal.at.put_rows-at-requires c).After-look-rows)) (two (goal.at.put_rows-at-requires c).After-look-rows) c.put-at.ensures)
+    let after_look_rows = (goal.at.put_rows-at-requires c).After-look-rows in
+    ((seen after_look_rows).rises, second_room c.loop-c.invariant.1 [] (within after_look_rows) c.requires.2 (groups (length (rows after_look_rows))) (rows_bytes (rows after_look_rows)) (two after_look_rows) c.put-at.ensures)
 
 pub loop-c-preserved : goal.loop-c-preserved
 loop-c-preserved c =
-    (_, putting_both c.loop-c.invariant.1 [] (within (goal.at.loop-c-preserved c).After-look-rows) c.requires.2 (groups (length (rows (goal.at.loop-c-preserved c).After-look-rows))) (rows_bytes (rows (goal.at.loop-c-preserved c).After-look-rows)) (two (goal.at.loop-c-preserved c).After-look-rows) c.put-at.ensures c.put_rows-at.ensures)
+    let after_look_rows = (goal.at.loop-c-preserved c).After-look-rows in
+    (_, putting_both c.loop-c.invariant.1 [] (within after_look_rows) c.requires.2 (groups (length (rows after_look_rows))) (rows_bytes (rows after_look_rows)) (two after_look_rows) c.put-at.ensures c.put_rows-at.ensures)
 
 -- All are put.
 all : (c : After-loop-c)

@@ -33,15 +33,18 @@ module _ (c : In-loop-t) where
 
 pub put-at-requires : goal.put-at-requires
 put-at-requires c =
-    (omega (arith, c.type_inv.or (t (goal.at.put-at-requires c).In-loop-t)), first_room c.loop-t.invariant (0, 0) (within (goal.at.put-at-requires c).In-loop-t) c.requires.3 (row (goal.at.put-at-requires c).In-loop-t) (col (goal.at.put-at-requires c).In-loop-t) (two (goal.at.put-at-requires c).In-loop-t))
+    let in_loop_t = (goal.at.put-at-requires c).In-loop-t in
+    (omega (arith, c.type_inv.or (t in_loop_t)), first_room c.loop-t.invariant (0, 0) (within in_loop_t) c.requires.3 (row in_loop_t) (col in_loop_t) (two in_loop_t))
 
 pub put-at-requires-in-loop-t : goal.put-at-requires-in-loop-t
 put-at-requires-in-loop-t c =
-    (omega (arith, c.type_inv.oc (t (goal.at.put-at-requires-in-loop-t c).In-loop-t)), second_room c.loop-t.invariant (0, 0) (within (goal.at.put-at-requires-in-loop-t c).In-loop-t) c.requires.3 (row (goal.at.put-at-requires-in-loop-t c).In-loop-t) (col (goal.at.put-at-requires-in-loop-t c).In-loop-t) (two (goal.at.put-at-requires-in-loop-t c).In-loop-t) c.put-at.ensures)
+    let in_loop_t = (goal.at.put-at-requires-in-loop-t c).In-loop-t in
+    (omega (arith, c.type_inv.oc (t in_loop_t)), second_room c.loop-t.invariant (0, 0) (within in_loop_t) c.requires.3 (row in_loop_t) (col in_loop_t) (two in_loop_t) c.put-at.ensures)
 
 pub loop-t-preserved : goal.loop-t-preserved
 loop-t-preserved c =
-    putting_both c.loop-t.invariant (0, 0) (within (goal.at.loop-t-preserved c).In-loop-t) c.requires.3 (row (goal.at.loop-t-preserved c).In-loop-t) (col (goal.at.loop-t-preserved c).In-loop-t) (two (goal.at.loop-t-preserved c).In-loop-t) c.put-at.ensures c.put-at-in-loop-t.ensures
+    let in_loop_t = (goal.at.loop-t-preserved c).In-loop-t in
+    putting_both c.loop-t.invariant (0, 0) (within in_loop_t) c.requires.3 (row in_loop_t) (col in_loop_t) (two in_loop_t) c.put-at.ensures c.put-at-in-loop-t.ensures
 
 -- All are put.
 all : (c : After-loop-t)

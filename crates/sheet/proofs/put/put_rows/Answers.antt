@@ -21,11 +21,13 @@ module _ (c : In-loop-k) where
 
 pub put-at-requires : goal.put-at-requires
 put-at-requires c =
-    (omega (arith, small (goal.at.put-at-requires c).In-loop-k), putting_room c.loop-k.invariant.1 0 (within (goal.at.put-at-requires c).In-loop-k) c.requires.1)
+    let in_loop_k = (goal.at.put-at-requires c).In-loop-k in
+    (omega (arith, small in_loop_k), putting_room c.loop-k.invariant.1 0 (within in_loop_k) c.requires.1)
 
 pub loop-k-preserved : goal.loop-k-preserved
 loop-k-preserved c =
-    (at_row_more c.loop-k.invariant.0 (within (goal.at.loop-k-preserved c).In-loop-k), putting_more c.loop-k.invariant.1 0 (within (goal.at.loop-k-preserved c).In-loop-k) c.requires.1 c.put-at.ensures)
+    let in_loop_k = (goal.at.loop-k-preserved c).In-loop-k in
+    (at_row_more c.loop-k.invariant.0 (within in_loop_k), putting_more c.loop-k.invariant.1 0 (within in_loop_k) c.requires.1 c.put-at.ensures)
 
 -- All are put.
 all : (c : After-loop-k)

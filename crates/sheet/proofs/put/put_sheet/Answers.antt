@@ -28,4 +28,5 @@ returns c =
 
 pub shape_of-bytes : goal.shape_of-bytes
 shape_of-bytes c =
-    ap length (all_put (its (goal.at.shape_of-bytes c).Start) c.args.bytes.now c.requires.4 c.put-columns.ensures c.put_columns-order.ensures c.put_order.ensures).1 ∙ over_length (sheet (its (goal.at.shape_of-bytes c).Start)) c.args.bytes.now c.requires.4
+    let start = (goal.at.shape_of-bytes c).Start in
+    ap length (all_put (its start) c.args.bytes.now c.requires.4 c.put-columns.ensures c.put_columns-order.ensures c.put_order.ensures).1 ∙ over_length (sheet (its start)) c.args.bytes.now c.requires.4

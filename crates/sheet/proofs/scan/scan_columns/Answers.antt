@@ -34,11 +34,12 @@ pub overflow_add-entries : goal.overflow_add-entries
 overflow_add-entries c = omega (arith, few (goal.at.overflow_add-entries c).In-Value)
 
 pub loop-c-preserved : goal.loop-c-preserved
-loop-c-preserved c = (
-  few (goal.at.loop-c-preserved c).In-Value,
-  partly_more c.loop-c.invariant.1 (n (goal.at.loop-c-preserved c).In-Value) (c.loop-c.entries + n (goal.at.loop-c-preserved c).In-Value) (omega arith) (rows (goal.at.loop-c-preserved c).In-Value).read
-      (λ P. omega (arith, length-append (rows (goal.at.loop-c-preserved c).In-Value).thing (flat P), (rows (goal.at.loop-c-preserved c).In-Value).gauge)) (ap (λ (k : ℕ). c.loop-c.entries + k) (rows (goal.at.loop-c-preserved c).In-Value).gauge),
-)
+loop-c-preserved c =
+    let in_Value = (goal.at.loop-c-preserved c).In-Value in (
+      few in_Value,
+      partly_more c.loop-c.invariant.1 (n in_Value) (c.loop-c.entries + n in_Value) (omega arith) (rows in_Value).read
+          (λ P. omega (arith, length-append (rows in_Value).thing (flat P), (rows in_Value).gauge)) (ap (λ (k : ℕ). c.loop-c.entries + k) (rows in_Value).gauge),
+    )
 
 pub returns : goal.returns
 returns c = sym (partly_all c.loop-c.invariant.1 c.loop-c.entries (omega arith) (omega arith))

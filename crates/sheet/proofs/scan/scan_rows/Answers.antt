@@ -32,7 +32,9 @@ pub overflow_add-least : goal.overflow_add-least
 overflow_add-least c = omega (arith, below (goal.at.overflow_add-least c).In-Value)
 
 pub loop-k-preserved : goal.loop-k-preserved
-loop-k-preserved c = (omega (arith, below (goal.at.loop-k-preserved c).In-Value), partly_more c.loop-k.invariant.1 1 (r (goal.at.loop-k-preserved c).In-Value + 1) (omega arith) (read (goal.at.loop-k-preserved c).In-Value) (λ l. omega arith) refl)
+loop-k-preserved c =
+    let in_Value = (goal.at.loop-k-preserved c).In-Value in
+    (omega (arith, below in_Value), partly_more c.loop-k.invariant.1 1 (r in_Value + 1) (omega arith) (read in_Value) (λ l. omega arith) refl)
 
 pub returns : goal.returns
 returns c =

@@ -46,7 +46,8 @@ returns-then-tops-pair c =
 
 pub loop-t-preserved : goal.loop-t-preserved
 loop-t-preserved c =
-    ((met (goal.at.loop-t-preserved c).After-known_pair-pair).left, below_more _ _ c.loop-t.invariant.1 (sym (stands_at (goal.at.loop-t-preserved c).After-known_pair-pair) ∙ c.if-tops-pair.false))
+    let after_known_pair_pair = (goal.at.loop-t-preserved c).After-known_pair-pair in
+    ((met after_known_pair_pair).left, below_more _ _ c.loop-t.invariant.1 (sym (stands_at after_known_pair_pair) ∙ c.if-tops-pair.false))
 
 pub returns : goal.returns
 returns c = told_yes (λ x h. c.loop-t.invariant.1 x (omega arith))

@@ -38,7 +38,8 @@ bounds-places-pair c = omega (arith, (met (goal.at.bounds-places-pair c).After-k
 
 pub returns-then-places-pair-lt-NOWHERE : goal.returns-then-places-pair-lt-NOWHERE
 returns-then-places-pair-lt-NOWHERE c =
-    told_no (entered_twice (stands (firsts (o (goal.at.returns-then-places-pair-lt-NOWHERE c).After-known_pair-pair))) (omega arith) (omega arith) c.loop-t.invariant.1 _ (met (goal.at.returns-then-places-pair-lt-NOWHERE c).After-known_pair-pair).row_is (met (goal.at.returns-then-places-pair-lt-NOWHERE c).After-known_pair-pair).row_below c.if-places-pair-lt-NOWHERE.true)
+    let after_known_pair_pair = (goal.at.returns-then-places-pair-lt-NOWHERE c).After-known_pair-pair in
+    told_no (entered_twice (stands (firsts (o after_known_pair_pair))) (omega arith) (omega arith) c.loop-t.invariant.1 _ (met after_known_pair_pair).row_is (met after_known_pair_pair).row_below c.if-places-pair-lt-NOWHERE.true)
 
 pub offset_bounds-places-pair-in-loop-t : goal.offset_bounds-places-pair-in-loop-t
 offset_bounds-places-pair-in-loop-t c = let b = (met (goal.at.offset_bounds-places-pair-in-loop-t c).After-known_pair-pair).row_below in search rules
@@ -47,10 +48,11 @@ pub bounds-places-pair-in-loop-t : goal.bounds-places-pair-in-loop-t
 bounds-places-pair-in-loop-t c = omega (arith, (met (goal.at.bounds-places-pair-in-loop-t c).After-known_pair-pair).row_below)
 
 pub loop-t-preserved : goal.loop-t-preserved
-loop-t-preserved c = (
-  (met (goal.at.loop-t-preserved c).After-known_pair-pair).left,
-  entered_more (stands (firsts (o (goal.at.loop-t-preserved c).After-known_pair-pair))) (omega arith) (omega arith) c.loop-t.invariant.1 _ (met (goal.at.loop-t-preserved c).After-known_pair-pair).row_is (met (goal.at.loop-t-preserved c).After-known_pair-pair).row_below c.if-places-pair-lt-NOWHERE.false,
-)
+loop-t-preserved c =
+    let after_known_pair_pair = (goal.at.loop-t-preserved c).After-known_pair-pair in (
+      (met after_known_pair_pair).left,
+      entered_more (stands (firsts (o after_known_pair_pair))) (omega arith) (omega arith) c.loop-t.invariant.1 _ (met after_known_pair_pair).row_is (met after_known_pair_pair).row_below c.if-places-pair-lt-NOWHERE.false,
+    )
 
 pub returns : goal.returns
 returns c =

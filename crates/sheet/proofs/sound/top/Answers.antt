@@ -61,10 +61,11 @@ overflow_add-least c = let b = (met (goal.at.overflow_add-least c).After-known-g
 
 pub loop-k-preserved : goal.loop-k-preserved
 loop-k-preserved c =
+    let after_known_gap = (goal.at.loop-k-preserved c).After-known-gap in
     let f : ℕ → ℕ = λ (x : ℕ). suc (stands c.args.places.now x) in
-    let p : f (r (goal.at.loop-k-preserved c).After-known-gap) ≡ f (stands (R (goal.at.loop-k-preserved c).After-known-gap) c.loop-k.k) = ap f (met (goal.at.loop-k-preserved c).After-known-gap).is in
-    let g = greatest_on f (R (goal.at.loop-k-preserved c).After-known-gap) c.loop-k.k (omega (arith, left_long c.loop-k.invariant.0)) in (
-      (met (goal.at.loop-k-preserved c).After-known-gap).left,
+    let p : f (r after_known_gap) ≡ f (stands (R after_known_gap) c.loop-k.k) = ap f (met after_known_gap).is in
+    let g = greatest_on f (R after_known_gap) c.loop-k.k (omega (arith, left_long c.loop-k.invariant.0)) in (
+      (met after_known_gap).left,
       elim c.if-top-p.branch [
         | then-top-p w ↦ omega (arith, w.if-top-p.true, w.top-is)
         | else-top-p w ↦ omega (arith, w.if-top-p.false, w.top-is)

@@ -33,11 +33,14 @@ module _ (c : After-known-n) where
 
 -- Once the column's entry is known.
 module _ (c : After-top-step) where
-  is : c.top-step.result.value ≡ greatest (λ (r : ℕ). suc (stands c.args.places.now r)) (column (P (goal.at.After-top-step c).After-known-n) c.loop-c.c)
-  is = c.top-step.ensures.1 ∙ ap (greatest (λ (r : ℕ). suc (stands c.args.places.now r))) (met (goal.at.After-top-step c).After-known-n).rows_are
+  abbrev after_known_n : After-known-n
+  after_known_n = (goal.at.After-top-step c).After-known-n
+
+  is : c.top-step.result.value ≡ greatest (λ (r : ℕ). suc (stands c.args.places.now r)) (column (P after_known_n) c.loop-c.c)
+  is = c.top-step.ensures.1 ∙ ap (greatest (λ (r : ℕ). suc (stands c.args.places.now r))) (met after_known_n).rows_are
 
   low : c.top-step.result.value ≤ c.args.m
-  low = omega (arith, is, top_low (stands c.args.places.now) (rising (goal.at.After-top-step c).After-known-n) c.requires.2)
+  low = omega (arith, is, top_low (stands c.args.places.now) (rising after_known_n) c.requires.2)
 
 pub loop-c-init : goal.loop-c-init
 loop-c-init c = ((0, left_none c.requires.1), c.requires.3, λ x h. absurd (omega arith))
@@ -47,18 +50,20 @@ known-n-requires c = count_known _ _ c.requires.0 c.loop-c.invariant.0.1 (omega 
 
 pub top-step-requires : goal.top-step-requires
 top-step-requires c =
-    ((met (goal.at.top-step-requires c).After-known-n).rows_known, λ k h. rw (met (goal.at.top-step-requires c).After-known-n).rows_are (omega (arith, c.requires.0, c.requires.2 _ ((rising (goal.at.top-step-requires c).After-known-n).below k (omega (arith, (met (goal.at.top-step-requires c).After-known-n).is))))))
+    let after_known_n = (goal.at.top-step-requires c).After-known-n in
+    ((met after_known_n).rows_known, λ k h. rw (met after_known_n).rows_are (omega (arith, c.requires.0, c.requires.2 _ ((rising after_known_n).below k (omega (arith, (met after_known_n).is))))))
 
 pub overflow_cast-tops : goal.overflow_cast-tops
 overflow_cast-tops c = let b = low (goal.at.overflow_cast-tops c).After-top-step in search rules
 
 pub loop-c-preserved : goal.loop-c-preserved
-loop-c-preserved c = (
-  (_, (met (goal.at.loop-c-preserved c).After-known-n).left c.top-step.ensures.0),
-  length-set c.loop-c.tops c.loop-c.c c.top-step.result.value ∙ c.loop-c.invariant.1,
-  stored_more (λ (x : ℕ). greatest (λ (r : ℕ). suc (stands c.args.places.now r)) (column (P (goal.at.loop-c-preserved c).After-known-n) x)) c.loop-c.tops c.loop-c.c c.top-step.result.value
-      (omega (arith, c.loop-c.invariant.1)) (is (goal.at.loop-c-preserved c).After-top-step) c.loop-c.invariant.2,
-)
+loop-c-preserved c =
+    let after_known_n = (goal.at.loop-c-preserved c).After-known-n in (
+      (_, (met after_known_n).left c.top-step.ensures.0),
+      length-set c.loop-c.tops c.loop-c.c c.top-step.result.value ∙ c.loop-c.invariant.1,
+      stored_more (λ (x : ℕ). greatest (λ (r : ℕ). suc (stands c.args.places.now r)) (column (P after_known_n) x)) c.loop-c.tops c.loop-c.c c.top-step.result.value
+          (omega (arith, c.loop-c.invariant.1)) (is (goal.at.loop-c-preserved c).After-top-step) c.loop-c.invariant.2,
+    )
 
 pub returns : goal.returns
 returns c = λ x h. c.loop-c.invariant.2 x (omega arith)

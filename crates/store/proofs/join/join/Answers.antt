@@ -22,7 +22,8 @@ module _ (c : After-below) where
 
 pub copy-requires : goal.copy-requires
 copy-requires c =
-    omega (arith, between_length 0 (q (goal.at.copy-requires c).After-below) c.args.numbers.now (short (goal.at.copy-requires c).After-below), few (goal.at.copy-requires c).After-below, c.requires.2)
+    let after_below = (goal.at.copy-requires c).After-below in
+    omega (arith, between_length 0 (q after_below) c.args.numbers.now (short after_below), few after_below, c.requires.2)
 
 pub bounds-list-q : goal.bounds-list-q
 bounds-list-q c =
@@ -30,14 +31,15 @@ bounds-list-q c =
 
 pub copy-requires-2 : goal.copy-requires-2
 copy-requires-2 c =
+    let after_below = (goal.at.copy-requires-2 c).After-below in
     let l = c.args.numbers.now in
     let k = c.copy in
     omega (
       arith,
-      between_length (q (goal.at.copy-requires-2 c).After-below + c.below.result) (length l) l (omega arith),
-      length-set k.new.list (q (goal.at.copy-requires-2 c).After-below) c.args.r,
+      between_length (q after_below + c.below.result) (length l) l (omega arith),
+      length-set k.new.list (q after_below) c.args.r,
       k.auto.list,
-      few (goal.at.copy-requires-2 c).After-below,
+      few after_below,
       c.requires.2,
     )
 

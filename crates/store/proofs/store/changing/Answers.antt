@@ -38,8 +38,9 @@ copy-requires c = omega (arith, fits (goal.at.copy-requires c).After-part-column
 
 pub returns : goal.returns
 returns c =
-    let long = ap length c.copy.ensures ∙ put_length 0 c.part-columns.result.now c.args.list.now (omega (arith, fits (goal.at.returns c).After-part-columns)) in (
-      omega (arith, long, fits (goal.at.returns c).After-part-columns),
+    let after_part_columns = (goal.at.returns c).After-part-columns in
+    let long = ap length c.copy.ensures ∙ put_length 0 c.part-columns.result.now c.args.list.now (omega (arith, fits after_part_columns)) in (
+      omega (arith, long, fits after_part_columns),
       long ∙ c.requires.2,
       λ h. ap (between 0 (length c.part-columns.result.now)) c.copy.ensures ∙ put_read c.part-columns.result.now c.args.list.now ∙ c.part-columns.ensures,
       λ h. absurd (omega arith),

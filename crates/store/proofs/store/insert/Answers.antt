@@ -41,17 +41,21 @@ module _ (c : After-wide-to) where
 
 pub move_up-requires : goal.move_up-requires
 move_up-requires c =
-    omega (arith, begins (goal.at.move_up-requires c).After-wide-to, ends (goal.at.move_up-requires c).After-wide-to, rise (goal.at.move_up-requires c).After-wide-to c.args.c (omega (arith, c.requires.good.1)), fits (goal.at.move_up-requires c).After-wide-to)
+    let after_wide_to = (goal.at.move_up-requires c).After-wide-to in
+    omega (arith, begins after_wide_to, ends after_wide_to, rise after_wide_to c.args.c (omega (arith, c.requires.good.1)), fits after_wide_to)
 
 pub raise-requires : goal.raise-requires
 raise-requires c =
-    (omega (arith, c.requires.good.1), c.requires.good.0.room.starts_long, λ k h. omega (arith, rise (goal.at.raise-requires c).After-wide-to k h, total (goal.at.raise-requires c).After-wide-to, c.requires.m_bound.0))
+    let after_wide_to = (goal.at.raise-requires c).After-wide-to in
+    (omega (arith, c.requires.good.1), c.requires.good.0.room.starts_long, λ k h. omega (arith, rise after_wide_to k h, total after_wide_to, c.requires.m_bound.0))
 
 pub copy-requires : goal.copy-requires
 copy-requires c =
-    filled_room c.requires.good.0 (new (goal.at.copy-requires c).After-wide-to) c.requires.good.1 c.requires.good.2 (begins (goal.at.copy-requires c).After-wide-to) (ends (goal.at.copy-requires c).After-wide-to) refl c.requires.m_bound.1 c.move_up.ensures
+    let after_wide_to = (goal.at.copy-requires c).After-wide-to in
+    filled_room c.requires.good.0 (new after_wide_to) c.requires.good.1 c.requires.good.2 (begins after_wide_to) (ends after_wide_to) refl c.requires.m_bound.1 c.move_up.ensures
 
 pub returns : goal.returns
 returns c =
-    filled_held c.requires.good.0 (new (goal.at.returns c).After-wide-to) c.requires.good.1 c.requires.good.2 (begins (goal.at.returns c).After-wide-to) (ends (goal.at.returns c).After-wide-to) refl c.requires.m_bound.1 c.move_up.ensures c.raise.ensures
+    let after_wide_to = (goal.at.returns c).After-wide-to in
+    filled_held c.requires.good.0 (new after_wide_to) c.requires.good.1 c.requires.good.2 (begins after_wide_to) (ends after_wide_to) refl c.requires.m_bound.1 c.move_up.ensures c.raise.ensures
     c.copy.ensures

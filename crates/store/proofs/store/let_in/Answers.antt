@@ -37,23 +37,26 @@ module _ (c : After-below) where
 
 pub move_up-requires : goal.move_up-requires
 move_up-requires c =
-    omega (arith, begins (goal.at.move_up-requires c).After-below, upto (goal.at.move_up-requires c).After-below, c.requires)
+    let after_below = (goal.at.move_up-requires c).After-below in
+    omega (arith, begins after_below, upto after_below, c.requires)
 
 pub bounds-entries-q : goal.bounds-entries-q
 bounds-entries-q c =
-    omega (arith, c.move_up.auto.list, begins (goal.at.bounds-entries-q c).After-below, upto (goal.at.bounds-entries-q c).After-below, c.requires)
+    let after_below = (goal.at.bounds-entries-q c).After-below in
+    omega (arith, c.move_up.auto.list, begins after_below, upto after_below, c.requires)
 
 pub returns : goal.returns
 returns c =
+    let after_below = (goal.at.returns c).After-below in
     let a = c.args in
     let q : ℕ = c.wide.result + c.below.result in
-    let x : q - at (starts (goal.at.returns c).After-below) (k (goal.at.returns c).After-below) ≡ c.below.result = omega (arith, begins (goal.at.returns c).After-below) in
+    let x : q - at (starts after_below) (k after_below) ≡ c.below.result = omega (arith, begins after_below) in
     let n : q + (a.i + 1) ≡ q + a.i + 1 = omega arith in
     record {
-      from = omega (arith, begins (goal.at.returns c).After-below);
-      cut = subst (λ (n : ℕ). Cut a.c n (part (starts (goal.at.returns c).After-below) (entries (goal.at.returns c).After-below) (k (goal.at.returns c).After-below))) (sym x) (cut (goal.at.returns c).After-below);
+      from = omega (arith, begins after_below);
+      cut = subst (λ (n : ℕ). Cut a.c n (part (starts after_below) (entries after_below) (k after_below))) (sym x) (cut after_below);
       entries_now =
-          ap (λ (l : List ℕ). set l (q + a.i) a.c) (c.move_up.ensures ∙ ap (λ (n : ℕ). put n (between q a.end (entries (goal.at.returns c).After-below)) (entries (goal.at.returns c).After-below)) n)
-          ∙ put_front (q + a.i) (between q a.end (entries (goal.at.returns c).After-below)) (entries (goal.at.returns c).After-below) a.c (omega (arith, begins (goal.at.returns c).After-below, upto (goal.at.returns c).After-below, c.requires));
+          ap (λ (l : List ℕ). set l (q + a.i) a.c) (c.move_up.ensures ∙ ap (λ (n : ℕ). put n (between q a.end (entries after_below)) (entries after_below)) n)
+          ∙ put_front (q + a.i) (between q a.end (entries after_below)) (entries after_below) a.c (omega (arith, begins after_below, upto after_below, c.requires));
       raised = c.raise.ensures;
     }

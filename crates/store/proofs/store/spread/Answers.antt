@@ -17,18 +17,19 @@ module _ (c : After-wide-k) where
 
 pub let_in-end-requires : goal.let_in-end-requires
 let_in-end-requires c =
+    let after_wide_k = (goal.at.let_in-end-requires c).After-wide-k in
     let p = c.requires in
     let S = c.loop-i.invariant in
     let e = c.wide-k.ensures in record {
       c_lt_max_size = (
         omega (arith, p.good.0.small),
-        let_in_top p.good.0 p.good.1 p.good.2 p.good.3 p.these_bound.1 S _ (one (goal.at.let_in-end-requires c).After-wide-k) e,
+        let_in_top p.good.0 p.good.1 p.good.2 p.good.3 p.these_bound.1 S _ (one after_wide_k) e,
         omega (arith, S.in_size, S.kept.long, p.good.0.room.starts_long),
-        let_in_within p.good.0 p.good.1 p.good.2 p.good.3 p.these_bound.1 S _ (one (goal.at.let_in-end-requires c).After-wide-k) e,
+        let_in_within p.good.0 p.good.1 p.good.2 p.good.3 p.these_bound.1 S _ (one after_wide_k) e,
       );
       k_bound = (
-        let_in_end p.good.0 p.good.1 p.good.2 p.good.3 p.these_bound.1 S _ (one (goal.at.let_in-end-requires c).After-wide-k) e,
-        let_in_room p.good.0 p.good.1 p.good.2 p.good.3 p.these_bound.1 S _ (one (goal.at.let_in-end-requires c).After-wide-k) e,
+        let_in_end p.good.0 p.good.1 p.good.2 p.good.3 p.these_bound.1 S _ (one after_wide_k) e,
+        let_in_room p.good.0 p.good.1 p.good.2 p.good.3 p.these_bound.1 S _ (one after_wide_k) e,
         λ j h. omega (arith, spreading_start p.good.0 p.good.1 p.good.2 p.good.3 p.these_bound.1 S j h, S.upto, p.these_bound.0),
       );
     }

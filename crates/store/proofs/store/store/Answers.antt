@@ -53,12 +53,15 @@ spread-requires c =
 
 -- The columns that change are those of row r, or column c alone.
 module _ (c : After-changing-n) where
+  abbrev start : Start
+  start = (goal.at.After-changing-n c).Start
+
   these_change : {these : List ℕ} → these ≡ between 0 c.changing-n.result c.changing-n.new.list
-      → Changing c.args.m (P (goal.at.After-changing-n c).Start) c.args.c c.args.r these
+      → Changing c.args.m (P start) c.args.c c.args.r these
   these_change {these} e = go (dec_lt c.args.r c.args.m)
     where
       s : Start
-      s = (goal.at.After-changing-n c).Start
+      s = start
 
       go : Dec (s.args.r < s.args.m) → Changing s.args.m (P s) s.args.c s.args.r these
       go (yes h) =
@@ -91,4 +94,7 @@ insert-requires c =
 
 pub returns : goal.returns
 returns c =
-    record { held = exchanged_held (emptied_now (goal.at.returns c).After-take_out-2) c.insert.ensures; held_2 = rows_held (struck_now (goal.at.returns c).After-take_out) c.spread.ensures }
+    record {
+      held = exchanged_held (emptied_now (goal.at.returns c).After-take_out-2) c.insert.ensures;
+      held_2 = rows_held (struck_now (goal.at.returns c).After-take_out) c.spread.ensures;
+    }

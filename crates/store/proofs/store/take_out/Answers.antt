@@ -71,15 +71,19 @@ module _ (w : After-wide-end) where
 
 pub move_down-requires-2 : goal.move_down-requires-2
 move_down-requires-2 c =
-    let d = last_down c.requires.0 c.requires.1 c.loop-i.invariant (all (goal.at.move_down-requires-2 c).After-wide-end) in
-    omega (arith, d.0, d.1, d.2, ends (goal.at.move_down-requires-2 c).After-wide-end)
+    let after_wide_end = (goal.at.move_down-requires-2 c).After-wide-end in
+    let d = last_down c.requires.0 c.requires.1 c.loop-i.invariant (all after_wide_end) in
+    omega (arith, d.0, d.1, d.2, ends after_wide_end)
 
 pub lower-requires-2 : goal.lower-requires-2
 lower-requires-2 c = last_lower c.requires.0 c.requires.1 c.loop-i.invariant (all (goal.at.lower-requires-2 c).After-wide-end)
 
 module _ (c : After-move_down-2) where
-  down : Down (goal.at.After-move_down-2 c).After-wide-end c.move_down-2.new.list (at c.args.starts.now c.args.m)
-  down = subst (Down (goal.at.After-move_down-2 c).After-wide-end c.move_down-2.new.list) (ends (goal.at.After-move_down-2 c).After-wide-end) c.move_down-2.ensures
+  abbrev after_wide_end : After-wide-end
+  after_wide_end = (goal.at.After-move_down-2 c).After-wide-end
+
+  down : Down after_wide_end c.move_down-2.new.list (at c.args.starts.now c.args.m)
+  down = subst (Down after_wide_end c.move_down-2.new.list) (ends after_wide_end) c.move_down-2.ensures
 
 pub shape_of-entries : goal.shape_of-entries
 shape_of-entries c =

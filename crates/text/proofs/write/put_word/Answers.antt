@@ -10,7 +10,10 @@ loop-i-preserved c =
 
 pub returns : goal.returns
 returns c =
-    record { after = omega (arith, c.loop-i.invariant.0); stand = stored_all (omega (arith, c.loop-i.invariant.0)) c.loop-i.invariant.1 }
+    record {
+      after = omega (arith, c.loop-i.invariant.0);
+      stand = stored_all (omega (arith, c.loop-i.invariant.0)) c.loop-i.invariant.1;
+    }
 
 pub loop-i-init : goal.loop-i-init
 loop-i-init c = (omega arith, stored_none)

@@ -32,52 +32,66 @@ returns-then-count-eq0 c eta =
 
 -- The line is the column's.
 module _ (c : Else-count-eq0) where
+  abbrev start : Start
+  start = (goal.at.Else-count-eq0 c).Start
+
   abbrev column : ℕ
   column = c.args.column
 
   abbrev count : ℕ
   count = c.col_count-count.result
 
-  found : (rows : List ℕ) × Speaks (line_so_far (begun (goal.at.Else-count-eq0 c).Start [])) col_word (column ∷ rows) × (count ≡ length (column ∷ rows))
+  found : (rows : List ℕ) × Speaks (line_so_far (begun start [])) col_word (column ∷ rows) × (count ≡ length (column ∷ rows))
   found = c.col_count-count.ensures.in_turn c.if-count-eq0.false
 
   few : count ≤ max_numbers
-  few = omega (arith, found.2, kept_few (omega (arith, line_long (goal.at.Else-count-eq0 c).Start, c.requires.0.line_short)) found.1)
+  few = omega (arith, found.2, kept_few (omega (arith, line_long start, c.requires.0.line_short)) found.1)
 
 pub keep-requires : goal.keep-requires
 unfolding col_word
 keep-requires c =
-    (omega (arith, line_long (goal.at.keep-requires c).Start, c.requires.0.line_short), c.requires.3, (column (goal.at.keep-requires c).Else-count-eq0 ∷ (found (goal.at.keep-requires c).Else-count-eq0).0, (found (goal.at.keep-requires c).Else-count-eq0).1))
+    let else_count_eq0 = (goal.at.keep-requires c).Else-count-eq0 in
+    (omega (arith, line_long (goal.at.keep-requires c).Start, c.requires.0.line_short), c.requires.3, (column else_count_eq0 ∷ (found else_count_eq0).0, (found else_count_eq0).1))
 
 -- Its numbers are kept.
 module _ (c : After-keep) where
+  abbrev else_count_eq0 : Else-count-eq0
+  else_count_eq0 = (goal.at.After-keep c).Else-count-eq0
+
   abbrev numbers : List ℕ
   numbers = c.keep.new.numbers
 
-  kept : numbers ≡ over (column (goal.at.After-keep c).Else-count-eq0 ∷ (found (goal.at.After-keep c).Else-count-eq0).0) c.args.numbers.now
+  kept : numbers ≡ over (column else_count_eq0 ∷ (found else_count_eq0).0) c.args.numbers.now
   unfolding col_word
-  kept = c.keep.ensures (column (goal.at.After-keep c).Else-count-eq0 ∷ (found (goal.at.After-keep c).Else-count-eq0).0) (found (goal.at.After-keep c).Else-count-eq0).1
+  kept = c.keep.ensures (column else_count_eq0 ∷ (found else_count_eq0).0) (found else_count_eq0).1
 
-  rows_are : take (count (goal.at.After-keep c).Else-count-eq0 - 1) (drop 1 numbers) ≡ (found (goal.at.After-keep c).Else-count-eq0).0
-  rows_are = kept_rows (column (goal.at.After-keep c).Else-count-eq0) (found (goal.at.After-keep c).Else-count-eq0).0 c.args.numbers.now kept (found (goal.at.After-keep c).Else-count-eq0).2
+  rows_are : take (count else_count_eq0 - 1) (drop 1 numbers) ≡ (found else_count_eq0).0
+  rows_are = kept_rows (column else_count_eq0) (found else_count_eq0).0 c.args.numbers.now kept (found else_count_eq0).2
 
 pub store-now_fits-requires : goal.store-now_fits-requires
 store-now_fits-requires c =
+    let else_count_eq0 = (goal.at.store-now_fits-requires c).Else-count-eq0 in
     let p = c.requires in
-    (omega (arith, p.1, p.2, p.4.col_starts_fit), omega (arith, ap length (rows_are (goal.at.store-now_fits-requires c).After-keep), (found (goal.at.store-now_fits-requires c).Else-count-eq0).2, few (goal.at.store-now_fits-requires c).Else-count-eq0), omega (arith, p.4.col_rows_fit))
+    (omega (arith, p.1, p.2, p.4.col_starts_fit), omega (arith, ap length (rows_are (goal.at.store-now_fits-requires c).After-keep), (found else_count_eq0).2, few else_count_eq0), omega (arith, p.4.col_rows_fit))
 
 -- Its rows are stored, where they fit.
 module _ (c : After-store-now_fits) where
+  abbrev else_count_eq0_of_store_now_fits : Else-count-eq0
+  else_count_eq0_of_store_now_fits = (goal.at.After-store-now_fits c).Else-count-eq0
+
+  abbrev after_keep : After-keep
+  after_keep = (goal.at.After-store-now_fits c).After-keep
+
   -- The lists then, with other row lists and another order.
   abbrev with_rows : (rs rc or oc : List ℕ) → Lists
   with_rows rs rc or oc = let l = c.store-now_fits.new in lists l.cs l.cr rs rc or oc
 
   stored : (eta : List ℕ) → let a = c.args in
-      ColStored (begun (goal.at.After-store-now_fits c).Start eta) a.column a.fits c.store-now_fits.result (with_rows a.rs.now a.rc.now a.or.now a.oc.now) (numbers (goal.at.After-store-now_fits c).After-keep)
+      ColStored (begun (goal.at.After-store-now_fits c).Start eta) a.column a.fits c.store-now_fits.result (with_rows a.rs.now a.rc.now a.or.now a.oc.now) (numbers after_keep)
   stored eta =
       let a = c.args in
-      let h = rw (rows_are (goal.at.After-store-now_fits c).After-keep) at (c.store-now_fits.ensures a.rs.now a.rc.now a.or.now a.oc.now) in
-      record { rows = (found (goal.at.After-store-now_fits c).Else-count-eq0).0; says = (found (goal.at.After-store-now_fits c).Else-count-eq0).1; fitting = h.0; stands = h.1; kept = kept (goal.at.After-store-now_fits c).After-keep }
+      let h = rw (rows_are after_keep) at (c.store-now_fits.ensures a.rs.now a.rc.now a.or.now a.oc.now) in
+      record { rows = (found else_count_eq0_of_store_now_fits).0; says = (found else_count_eq0_of_store_now_fits).1; fitting = h.0; stands = h.1; kept = kept after_keep }
 
 pub returns-then-column-size : goal.returns-then-column-size
 returns-then-column-size c eta =
@@ -91,10 +105,11 @@ open-requires c =
 
 pub returns : goal.returns
 returns c eta =
+    let after_store_now_fits = (goal.at.returns c).After-store-now_fits in
     let a = c.args in
     let l = c.«open».new in
-    col_opens (begun (goal.at.returns c).Start eta) a.size a.column a.fits (stored (goal.at.returns c).After-store-now_fits eta) {l' = with_rows (goal.at.returns c).After-store-now_fits l.rs l.rc l.or l.oc} c.if-column-size.false
-    (c.«open».ensures a.cs.now a.cr.now (a.column ∷ (stored (goal.at.returns c).After-store-now_fits eta).rows) eta a.numbers.now a.line.now)
+    col_opens (begun (goal.at.returns c).Start eta) a.size a.column a.fits (stored after_store_now_fits eta) {l' = with_rows after_store_now_fits l.rs l.rc l.or l.oc} c.if-column-size.false
+    (c.«open».ensures a.cs.now a.cr.now (a.column ∷ (stored after_store_now_fits eta).rows) eta a.numbers.now a.line.now)
 
 pub slice_bounds-col_count-end : goal.slice_bounds-col_count-end
 slice_bounds-col_count-end c = sym (line_long (goal.at.slice_bounds-col_count-end c).Start)

@@ -23,7 +23,8 @@ module _ (s : Start) where
 
 pub returns-then-not-fits : goal.returns-then-not-fits
 returns-then-not-fits c old_cs old_cr new eta numbers line =
-    start_unfit (begun (goal.at.returns-then-not-fits c).Start old_cs old_cr eta numbers line) c.args.size new (filled (goal.at.returns-then-not-fits c).Start) c.if-not-fits.true c.refuse.ensures.0 c.refuse.ensures.1
+    let start = (goal.at.returns-then-not-fits c).Start in
+    start_unfit (begun start old_cs old_cr eta numbers line) c.args.size new (filled start) c.if-not-fits.true c.refuse.ensures.0 c.refuse.ensures.1
 
 -- The register has replied.
 module _ (c : After-start) where
@@ -35,10 +36,14 @@ module _ (c : After-start) where
 
 pub returns-in-Refused : goal.returns-in-Refused
 returns-in-Refused c old_cs old_cr new eta numbers line =
-    start_faulty (begun (goal.at.returns-in-Refused c).Start old_cs old_cr eta numbers line) c.args.size new (filled (goal.at.returns-in-Refused c).Start) {l' = started_lists (goal.at.returns-in-Refused c).After-start} (fitted (goal.at.returns-in-Refused c).After-start) (number_some c.in-Refused.refusal)
+    let start_then = (goal.at.returns-in-Refused c).Start in
+    let after_start = (goal.at.returns-in-Refused c).After-start in
+    start_faulty (begun start_then old_cs old_cr eta numbers line) c.args.size new (filled start_then) {l' = started_lists after_start} (fitted after_start) (number_some c.in-Refused.refusal)
     (rw c.in-Refused.is at c.start.ensures) c.refuse-in-Refused.ensures.0 (rw c.number.ensures at c.refuse-in-Refused.ensures.1)
 
 pub returns-in-Sound : goal.returns-in-Sound
 returns-in-Sound c old_cs old_cr new eta numbers line =
-    start_sound (begun (goal.at.returns-in-Sound c).Start old_cs old_cr eta numbers line) c.args.size new (filled (goal.at.returns-in-Sound c).Start) {l' = started_lists (goal.at.returns-in-Sound c).After-start} (fitted (goal.at.returns-in-Sound c).After-start) (rw c.in-Sound.is at c.start.ensures)
+    let start_then = (goal.at.returns-in-Sound c).Start in
+    let after_start = (goal.at.returns-in-Sound c).After-start in
+    start_sound (begun start_then old_cs old_cr eta numbers line) c.args.size new (filled start_then) {l' = started_lists after_start} (fitted after_start) (rw c.in-Sound.is at c.start.ensures)
     c.next_line.ensures (puts_none c.args.place c.args.out.now)

@@ -29,13 +29,17 @@ module _ (c : In-Numbers) where
 
 pub returns-then-count-ne1 : goal.returns-then-count-ne1
 returns-then-count-ne1 c =
+    let in_Numbers = (goal.at.returns-then-count-ne1 c).In-Numbers in
     let b = c.bad-then-count-ne1.ensures in
-    λ cr rs rc or oc eta numbers. makes_bad _ (λ x s. c.if-count-ne1.true (heard_are order_word (line (goal.at.returns-then-count-ne1 c).In-Numbers) (heard (goal.at.returns-then-count-ne1 c).In-Numbers) s).1) b.0 b.1
+    λ cr rs rc or oc eta numbers. makes_bad _ (λ x s. c.if-count-ne1.true (heard_are order_word (line in_Numbers) (heard in_Numbers) s).1) b.0 b.1
 
 -- One number alone.
 module _ (c : Else-count-ne1) where
-  alone : Speaks (line (goal.at.Else-count-ne1 c).In-Numbers) order_word (first (goal.at.Else-count-ne1 c).In-Numbers ∷ [])
-  alone = heard_alone order_word (line (goal.at.Else-count-ne1 c).In-Numbers) (heard (goal.at.Else-count-ne1 c).In-Numbers) c.if-count-ne1.false
+  abbrev in_Numbers : In-Numbers
+  in_Numbers = (goal.at.Else-count-ne1 c).In-Numbers
+
+  alone : Speaks (line in_Numbers) order_word (first in_Numbers ∷ [])
+  alone = heard_alone order_word (line in_Numbers) (heard in_Numbers) c.if-count-ne1.false
 
 pub returns-then-first-eq0 : goal.returns-then-first-eq0
 returns-then-first-eq0 c =

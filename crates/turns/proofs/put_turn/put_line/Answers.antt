@@ -41,11 +41,17 @@ unheard c = rw c.in-Nothing.is at c.hear.ensures
 
 -- A column number and rows were heard.
 module _ (c : Else-count-eq0) where
-  rows : (rows : List ℕ) × Speaks (line (goal.at.Else-count-eq0 c).Start) put_word (first (goal.at.Else-count-eq0 c).In-Numbers ∷ rows) × (c.in-Numbers.count ≡ suc (length rows))
-  rows = heard_some put_word (line (goal.at.Else-count-eq0 c).Start) (heard (goal.at.Else-count-eq0 c).In-Numbers) c.if-count-eq0.false
+  abbrev in_Numbers : In-Numbers
+  in_Numbers = (goal.at.Else-count-eq0 c).In-Numbers
+
+  abbrev start : Start
+  start = (goal.at.Else-count-eq0 c).Start
+
+  rows : (rows : List ℕ) × Speaks (line start) put_word (first in_Numbers ∷ rows) × (c.in-Numbers.count ≡ suc (length rows))
+  rows = heard_some put_word (line start) (heard in_Numbers) c.if-count-eq0.false
 
   few : suc (length rows.0) ≤ length c.args.numbers.now
-  few = omega (arith, speaks_few rows.1, line_length (goal.at.Else-count-eq0 c).Start, c.requires.0.line_short, c.requires.1)
+  few = omega (arith, speaks_few rows.1, line_length start, c.requires.0.line_short, c.requires.1)
 
 pub returns-then-count-eq0 : goal.returns-then-count-eq0
 returns-then-count-eq0 c =
@@ -55,11 +61,13 @@ returns-then-count-eq0 c =
 pub keep-requires : goal.keep-requires
 unfolding put_word
 keep-requires c =
-    (omega (arith, line_length (goal.at.keep-requires c).Start, c.requires.0.line_short), c.requires.1, (first (goal.at.keep-requires c).In-Numbers ∷ (rows (goal.at.keep-requires c).Else-count-eq0).0, (rows (goal.at.keep-requires c).Else-count-eq0).1))
+    let else_count_eq0 = (goal.at.keep-requires c).Else-count-eq0 in
+    (omega (arith, line_length (goal.at.keep-requires c).Start, c.requires.0.line_short), c.requires.1, (first (goal.at.keep-requires c).In-Numbers ∷ (rows else_count_eq0).0, (rows else_count_eq0).1))
 
 pub slice_bounds-replace-end : goal.slice_bounds-replace-end
 slice_bounds-replace-end c =
-    omega (arith, few (goal.at.slice_bounds-replace-end c).Else-count-eq0, (rows (goal.at.slice_bounds-replace-end c).Else-count-eq0).2)
+    let else_count_eq0 = (goal.at.slice_bounds-replace-end c).Else-count-eq0 in
+    omega (arith, few else_count_eq0, (rows else_count_eq0).2)
 
 pub next_line-requires : goal.next_line-requires
 next_line-requires c = c.requires.0.countable
@@ -74,14 +82,17 @@ returns-in-Nothing c = let b = c.bad.ensures in makes_bad _ (λ x s. unheard (go
 pub shape_of-numbers : goal.shape_of-numbers
 unfolding put_word
 shape_of-numbers c =
-    let l = first (goal.at.shape_of-numbers c).In-Numbers ∷ (rows (goal.at.shape_of-numbers c).Else-count-eq0).0 in
-    ap length (c.keep.ensures l (rows (goal.at.shape_of-numbers c).Else-count-eq0).1) ∙ over_length l c.args.numbers.now (few (goal.at.shape_of-numbers c).Else-count-eq0)
+    let else_count_eq0 = (goal.at.shape_of-numbers c).Else-count-eq0 in
+    let l = first (goal.at.shape_of-numbers c).In-Numbers ∷ (rows else_count_eq0).0 in
+    ap length (c.keep.ensures l (rows else_count_eq0).1) ∙ over_length l c.args.numbers.now (few else_count_eq0)
 
 pub returns-else-count-eq0 : goal.returns-else-count-eq0
 unfolding put_word
 returns-else-count-eq0 c =
-    let kept = c.keep.ensures (first (goal.at.returns-else-count-eq0 c).In-Numbers ∷ (rows (goal.at.returns-else-count-eq0 c).Else-count-eq0).0) (rows (goal.at.returns-else-count-eq0 c).Else-count-eq0).1 in
-    makes_put _ c.args.size (first (goal.at.returns-else-count-eq0 c).In-Numbers) (rows (goal.at.returns-else-count-eq0 c).Else-count-eq0).0 (rows (goal.at.returns-else-count-eq0 c).Else-count-eq0).1 (kept_rows (first (goal.at.returns-else-count-eq0 c).In-Numbers) (rows (goal.at.returns-else-count-eq0 c).Else-count-eq0).0 c.args.numbers.now kept (rows (goal.at.returns-else-count-eq0 c).Else-count-eq0).2) kept c.replace-replaced.ensures c.next_line.ensures
+    let in_Numbers = (goal.at.returns-else-count-eq0 c).In-Numbers in
+    let else_count_eq0 = (goal.at.returns-else-count-eq0 c).Else-count-eq0 in
+    let kept = c.keep.ensures (first in_Numbers ∷ (rows else_count_eq0).0) (rows else_count_eq0).1 in
+    makes_put _ c.args.size (first in_Numbers) (rows else_count_eq0).0 (rows else_count_eq0).1 (kept_rows (first in_Numbers) (rows else_count_eq0).0 c.args.numbers.now kept (rows else_count_eq0).2) kept c.replace-replaced.ensures c.next_line.ensures
     c.put_reply.ensures
 
 pub slice_bounds-hear-end : goal.slice_bounds-hear-end
