@@ -31,8 +31,8 @@ fn eliminate(
     places: &[u16; Register::MAX_SIZE],
     eta: &mut [u16],
 ) -> Judgment
-    requires m_le_max_size { (m ≤ max_size) × (m ≤ length eta.old) × ((x : ℕ) → x < m → at places.now x < m) }
-    requires rising { Rising m new.now × (p ≤ greatest (at places.now) new.now) }
+    requires in_range { (m ≤ max_size) × (m ≤ length eta.old) × ((x : ℕ) → x < m → at places.now x < m) }
+    requires new_rise { Rising m new.now × (p ≤ greatest (at places.now) new.now) }
     ensures { BumpAndEta m places.now new.now p (flagged marks.now) eta.old result eta.new }
 {
     let eta_count = lay(marks, m, places, p, eta);
@@ -59,12 +59,12 @@ pub fn judge(
     eta: &mut [u16],
 ) -> Judgment
     requires judgeable { Judgeable (call m (lists cs.now cr.now rs.now rc.now or.now oc.now) c new.now eta.old) × (m ≤ length eta.old) }
-    requires p_value { (p ≡ place (at oc.now) m c) × Placed m (at oc.now) old.old × Placed m (at or.now) places.old × (length counts.old ≡ max_size) }
+    requires placed { (p ≡ place (at oc.now) m c) × Placed m (at oc.now) old.old × Placed m (at or.now) places.old × (length counts.old ≡ max_size) }
     ensures judges { Judges
         (call m (lists cs.now cr.now rs.now rc.now or.now oc.now)
         c new.now eta.old)
         places.new old.new eta.new result }
-    ensures places_len { (length places.new ≡ max_size) × (length counts.new ≡ max_size) }
+    ensures lengths { (length places.new ≡ max_size) × (length counts.new ≡ max_size) }
 {
     let empty = Register::empty_marks();
     let mut marks = empty.marks;

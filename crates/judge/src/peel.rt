@@ -107,8 +107,8 @@ fn count_left(
     places: &[u16; Register::MAX_SIZE],
     counts: &mut [u16; Register::MAX_SIZE],
 )
-    requires p_le_end { (p ≤ end) × (end ≤ max_size) × (end ≤ length oc.now) × (length counts.old ≡ max_size) }
-    requires by_index { (t : ℕ) → t < end → Readable cs.now cr.now c new.now (at oc.now t) }
+    requires window { (p ≤ end) × (end ≤ max_size) × (end ≤ length oc.now) × (length counts.old ≡ max_size) }
+    requires readable { (t : ℕ) → t < end → Readable cs.now cr.now c new.now (at oc.now t) }
     ensures { Counted (λ t. spiked_part cs.now cr.now c new.now (at oc.now t)) places.now p end
         counts.new }
 {
@@ -225,14 +225,14 @@ pub fn peel(
     old: &mut [u16; Register::MAX_SIZE],
     places: &mut [u16; Register::MAX_SIZE],
 ) -> bool
-    requires good { Good m cs.now cr.now × Good m rs.now rc.now × SameEntries (parts m cs.now cr.now) (parts m rs.now rc.now) }
-    requires m_in_bounds { (m ≤ length or.now) × (m ≤ length oc.now) × Sound (Entry (parts m cs.now cr.now)) m (at or.now) (at oc.now) }
-    requires c_lt_m { (c < m) × Rising m new.now × (p ≡ place (at oc.now) m c) }
-    requires counts_len { (length counts.old ≡ max_size) × Placed m (at oc.now) old.old × Placed m (at or.now) places.old }
+    requires listings { Good m cs.now cr.now × Good m rs.now rc.now × SameEntries (parts m cs.now cr.now) (parts m rs.now rc.now) }
+    requires order { (m ≤ length or.now) × (m ≤ length oc.now) × Sound (Entry (parts m cs.now cr.now)) m (at or.now) (at oc.now) }
+    requires column { (c < m) × Rising m new.now × (p ≡ place (at oc.now) m c) }
+    requires placed { (length counts.old ≡ max_size) × Placed m (at oc.now) old.old × Placed m (at or.now) places.old }
     ensures told { Told result
         (Peeled m (spiked m cs.now cr.now c new.now) (at oc.now) places.new old.new)
         (¬ Triangular (Entry (spiked m cs.now cr.now c new.now)) m) }
-    ensures places_len { (length places.new ≡ max_size) × (length old.new ≡ max_size) × (length counts.new ≡ max_size) }
+    ensures lengths { (length places.new ≡ max_size) × (length old.new ≡ max_size) × (length counts.new ≡ max_size) }
 {
     let end = window_end(p, new, places);
     free(p, end, or, places);

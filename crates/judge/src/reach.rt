@@ -28,8 +28,8 @@ pub fn sweep(
     to: usize,
     marks: &mut [bool; Marks::ROOM],
 )
-    requires good { Good m rs.now rc.now × (m ≤ length or.now) × ((t : ℕ) → t < m → at or.now t < m) }
-    requires from_le_to { (from ≤ to) × (to ≤ m) × ((y : ℕ) → y < m → at old.now y < m) × (length marks.old ≡ max_mark) }
+    requires rows_good { Good m rs.now rc.now × (m ≤ length or.now) × ((t : ℕ) → t < m → at or.now t < m) }
+    requires window { (from ≤ to) × (to ≤ m) × ((y : ℕ) → y < m → at old.now y < m) × (length marks.old ≡ max_mark) }
     ensures { (length marks.new ≡ max_mark) × ((col : ℕ → ℕ) (c : ℕ) → Placed m col old.now
         → Sound (ByRows (parts m rs.now rc.now)) m (at or.now) col
         → Swept m (parts m rs.now rc.now) (at or.now) col c from (flagged marks.old)

@@ -67,7 +67,7 @@ fn fill_column(
     next: &mut [u16; MAX_SIZE],
     cols: &mut [u16],
 )
-    requires j_lt_m { (j < m) × Good m starts.now rows.now × (at starts.now m ≤ length cols.old) }
+    requires good { (j < m) × Good m starts.now rows.now × (at starts.now m ≤ length cols.old) }
     requires walked { Walked m (start_of (turned m (parts m starts.now rows.now))) cols.old (λ r. row_of (parts m starts.now rows.now) r j) next.old }
     ensures { Walked m (start_of (turned m (parts m starts.now rows.now))) cols.new
         (λ r. row_of (parts m starts.now rows.now) r (j + 1)) next.new

@@ -79,7 +79,7 @@ fn contents(
     tops: &mut [u16; Register::MAX_SIZE],
 ) -> Checked
     requires sized { Sized m × Long m (lists cs.now cr.now rs.now rc.now or.now oc.now) }
-    requires next_len { (length next.old ≡ max_size) × (length places.old ≡ max_size) × (length tops.old ≡ max_size) }
+    requires scratch { (length next.old ≡ max_size) × (length places.old ≡ max_size) × (length tops.old ≡ max_size) }
     ensures contents { Contents m
         (lists cs.now cr.now rs.now rc.now or.now oc.now)
         (λ n. n) (λ n. n ≡ 0) (fault result) }

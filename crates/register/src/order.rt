@@ -16,8 +16,8 @@ use listing::wide::wide;
 
 // Enters the place of each number. False where one is m or more, or has a place already.
 pub fn enter(m: usize, numbers: &[u16], places: &mut [u16; Register::MAX_SIZE]) -> bool
-    requires m_le_max_size { (m ≤ max_size) × (m ≤ length numbers.now) }
-    requires places_len { (length places.old ≡ max_size) × ((x : ℕ) → x < max_size → at places.old x ≡ max_size) }
+    requires in_range { (m ≤ max_size) × (m ≤ length numbers.now) }
+    requires none_placed { (length places.old ≡ max_size) × ((x : ℕ) → x < max_size → at places.old x ≡ max_size) }
     ensures { Told result (Placed m (at numbers.now) places.new) (¬ Once (at numbers.now) m m) }
 {
     let mut t = 0;

@@ -39,8 +39,8 @@ fn meet(
     next: &mut [u16; Register::MAX_SIZE],
     tops: &mut [u16; Register::MAX_SIZE],
 ) -> bool
-    requires j_lt_max_size { (j < max_size) × Rising max_size rows.now × (length next.old ≡ max_size) × (length tops.old ≡ max_size) }
-    requires by_index { (r : ℕ) → T (has rows.now r) → at next.old r ≤ max_total + max_size }
+    requires in_range { (j < max_size) × Rising max_size rows.now × (length next.old ≡ max_size) × (length tops.old ≡ max_size) }
+    requires cursors_low { (r : ℕ) → T (has rows.now r) → at next.old r ≤ max_total + max_size }
     ensures { Told result
         (Past cols.now j rows.now next.old next.new
         × (tops.new ≡ set tops.old j (greatest (at places.now) rows.now)))

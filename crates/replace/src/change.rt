@@ -36,7 +36,7 @@ pub fn change(
 ) -> Judgment
     requires judgeable { Judgeable (call m (lists cs.old cr.old rs.old rc.old or.old oc.old) c new.now eta.old) × (m ≤ length eta.old) }
     requires new_fits { NewFits (call m (lists cs.old cr.old rs.old rc.old or.old oc.old) c new.now eta.old) }
-    requires work_len { (length work.old ≡ max_size) × Placed m (at oc.old) old.old × Placed m (at or.old) places.old }
+    requires placed { (length work.old ≡ max_size) × Placed m (at oc.old) old.old × Placed m (at or.old) places.old }
     ensures { Answered
         (call m (lists cs.old cr.old rs.old rc.old or.old oc.old)
         c new.now eta.old)

@@ -35,7 +35,7 @@ pub fn permute(
 )
     requires judgeable { Judgeable (call m (lists cs.old cr.old rs.old rc.old or.old oc.old) c new.now [])
         × NewFits (call m (lists cs.old cr.old rs.old rc.old or.old oc.old) c new.now []) }
-    requires work_len { (length work.old ≡ max_size) × ((x : ℕ) → x < m → at places.now x < m) × ((x : ℕ) → x < m → at old.now x < m) }
+    requires places_low { (length work.old ≡ max_size) × ((x : ℕ) → x < m → at places.now x < m) × ((x : ℕ) → x < m → at old.now x < m) }
     ensures { PermutesLists
         (call m (lists cs.old cr.old rs.old rc.old or.old oc.old) c new.now [])
         places.now old.now
@@ -64,9 +64,9 @@ pub fn clear(
 )
     requires judgeable { Judgeable (call m (lists cs.old cr.old rs.old rc.old or.old oc.old) c new.now [])
         × NewFits (call m (lists cs.old cr.old rs.old rc.old or.old oc.old) c new.now []) }
-    requires not_no_choice { ¬ NoChoice (Spike (asked (call m (lists cs.old cr.old rs.old rc.old or.old oc.old) c new.now [])))
+    requires choice_left { ¬ NoChoice (Spike (asked (call m (lists cs.old cr.old rs.old rc.old or.old oc.old) c new.now [])))
         (size (asked (call m (lists cs.old cr.old rs.old rc.old or.old oc.old) c new.now []))) }
-    requires p_value { (p ≡ place (at oc.old) m c) × (length work.old ≡ max_size) × (length list.old ≡ max_size) }
+    requires placed { (p ≡ place (at oc.old) m c) × (length work.old ≡ max_size) × (length list.old ≡ max_size) }
     ensures { ClearsLists
         (call m (lists cs.old cr.old rs.old rc.old or.old oc.old) c new.now []) p
         (lists cs.new cr.new rs.new rc.new or.new oc.new) }

@@ -22,8 +22,8 @@ const NOWHERE: u16 = 1000;
 
 // Enters the place of each row of the order. False where one has a place already.
 fn enter(bytes: &[u8], place: usize, m: u32, places: &mut [u16; Register::MAX_SIZE]) -> bool
-    requires m_le_max_size { (m ≤ max_size) × Got [] (order_at bytes.now m place) }
-    requires places_len { (length places.old ≡ max_size) × ((x : ℕ) → x < max_size → at places.old x ≡ max_size) }
+    requires got { (m ≤ max_size) × Got [] (order_at bytes.now m place) }
+    requires none_placed { (length places.old ≡ max_size) × ((x : ℕ) → x < max_size → at places.old x ≡ max_size) }
     ensures { Told result
         (Placed m (at (firsts (thing [] (order_at bytes.now m place)))) places.new)
         (¬ Once (at (firsts (thing [] (order_at bytes.now m place)))) m m) }

@@ -88,7 +88,7 @@ fn changing(
 // Gives column c, which has no entry, the rows; the columns after it make room.
 fn insert(m: usize, cs: &mut [u16], cr: &mut [u16], c: usize, rows: &[u16])
     requires good { Good m cs.old cr.old × (c < m) × (at cs.old (c + 1) ≡ at cs.old c) }
-    requires m_bound { (start_of (filled m (parts m cs.old cr.old) c rows.now) m ≤ max_total)
+    requires room { (start_of (filled m (parts m cs.old cr.old) c rows.now) m ≤ max_total)
         × (start_of (filled m (parts m cs.old cr.old) c rows.now) m ≤ length cr.old) }
     ensures { Held (filled m (parts m cs.old cr.old) c rows.now)
         cs.old cr.old cs.new cr.new }
@@ -112,8 +112,8 @@ fn let_in(
     top: usize,
     i: usize,
 ) -> usize
-    requires c_lt_max_size { (c < max_size) × (k < top) × (top < length starts.old) × Within starts.old entries.old k }
-    requires k_bound { (at starts.old (k + 1) ≤ end) × (end + i < length entries.old) × ((j : ℕ) → j ≤ top → at starts.old j + (i + 1) ≤ max_total) }
+    requires within { (c < max_size) × (k < top) × (top < length starts.old) × Within starts.old entries.old k }
+    requires room { (at starts.old (k + 1) ≤ end) × (end + i < length entries.old) × ((j : ℕ) → j ≤ top → at starts.old j + (i + 1) ≤ max_total) }
     ensures { LetIn c k end top i starts.old entries.old starts.new entries.new result }
 {
     let q = wide(starts[k]) + below(part(starts, entries, k), c);
@@ -126,7 +126,7 @@ fn let_in(
 // Gives the number c to each of these parts, none of which has it: the last part first, so that each entry moves once.
 fn spread(m: usize, starts: &mut [u16], entries: &mut [u16], c: usize, these: &[u16])
     requires good { Good m starts.old entries.old × (c < m) × Rising m these.now × ((k : ℕ) → ¬ Entry (parts m starts.old entries.old) c k) }
-    requires these_bound { (at starts.old m + length these.now ≤ max_total) × (at starts.old m + length these.now ≤ length entries.old) }
+    requires room { (at starts.old m + length these.now ≤ max_total) × (at starts.old m + length these.now ≤ length entries.old) }
     ensures { Held (spread m c these.now (parts m starts.old entries.old))
         starts.old entries.old starts.new entries.new }
 {
@@ -158,12 +158,12 @@ pub fn store(
     requires good { Good m cs.old cr.old × Good m rs.old rc.old × SameEntries (parts m cs.old cr.old) (parts m rs.old rc.old)
         × (c < m) × Rising m rows.now }
     requires entry { (r < m → Entry (parts m cs.old cr.old) r c) × (length list.old ≡ max_size) }
-    requires m_bound { (start_of (exchanged m (parts m cs.old cr.old) c r rows.now) m ≤ max_total)
+    requires room { (start_of (exchanged m (parts m cs.old cr.old) c r rows.now) m ≤ max_total)
         × (start_of (exchanged m (parts m cs.old cr.old) c r rows.now) m ≤ length cr.old)
         × (start_of (exchanged m (parts m cs.old cr.old) c r rows.now) m ≤ length rc.old) }
-    ensures held { Held (exchanged m (parts m cs.old cr.old) c r rows.now)
+    ensures columns_held { Held (exchanged m (parts m cs.old cr.old) c r rows.now)
         cs.old cr.old cs.new cr.new }
-    ensures held_2 { Held (turned m (exchanged m (parts m cs.old cr.old) c r rows.now))
+    ensures rows_held { Held (turned m (exchanged m (parts m cs.old cr.old) c r rows.now))
         rs.old rc.old rs.new rc.new }
 {
     let n = changing(m, rs, rc, c, r, list);

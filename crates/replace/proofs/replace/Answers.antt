@@ -38,7 +38,7 @@ change-requires c =
     record {
       judgeable = (t.judgeable, t.eta_fits);
       new_fits = t.new_fits;
-      work_len = (k.work_long, k.cols_placed, k.rows_placed);
+      placed = (k.work_long, k.cols_placed, k.rows_placed);
     }
 
 pub returns : goal.returns

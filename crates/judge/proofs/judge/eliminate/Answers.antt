@@ -10,17 +10,17 @@ use Rattle.judge.proofs.judge.eliminate.Goals as goal
 use Rattle.judge.proofs.judge.eliminate.Goals.{After-top_place}
 
 pub lay-eta_count-requires : goal.lay-eta_count-requires
-lay-eta_count-requires c = (c.requires.m_le_max_size.0, c.requires.m_le_max_size.1, λ x h. omega (arith, c.requires.m_le_max_size.0, c.requires.m_le_max_size.2 x h))
+lay-eta_count-requires c = (c.requires.in_range.0, c.requires.in_range.1, λ x h. omega (arith, c.requires.in_range.0, c.requires.in_range.2 x h))
 
 pub top_place-requires : goal.top_place-requires
-top_place-requires c = λ k h. omega (arith, c.requires.m_le_max_size.0, c.requires.rising.0.below k h)
+top_place-requires c = λ k h. omega (arith, c.requires.in_range.0, c.requires.new_rise.0.below k h)
 
 -- The greatest place of a new row.
 low : (c : After-top_place) → (c.args.p ≤ c.top_place.result) × (c.top_place.result ≤ 1000)
 low c =
     let e = c.top_place.ensures in
-    let few = greatest_low (at c.args.places.now) c.args.new.now c.args.m (λ x u. omega (arith, c.requires.m_le_max_size.2 x (rising_below c.requires.rising.0 x u))) in
-    (omega (arith, e, c.requires.rising.1), omega (arith, e, few, c.requires.m_le_max_size.0))
+    let few = greatest_low (at c.args.places.now) c.args.new.now c.args.m (λ x u. omega (arith, c.requires.in_range.2 x (rising_below c.requires.new_rise.0 x u))) in
+    (omega (arith, e, c.requires.new_rise.1), omega (arith, e, few, c.requires.in_range.0))
 
 pub returns : goal.returns
 returns c =

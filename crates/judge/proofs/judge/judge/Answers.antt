@@ -56,15 +56,15 @@ module _ (begun : Start) where
   places = begun.args.places.now
 
   rows_placed : Placed asked.size row places
-  rows_placed = begun.requires.p_value.2
+  rows_placed = begun.requires.placed.2
 
   cols_placed : Placed asked.size col begun.args.old.now
-  cols_placed = begun.requires.p_value.1
+  cols_placed = begun.requires.placed.1
 
   p_place : (begun.args.p < asked.size) × (col begun.args.p ≡ asked.column)
   p_place =
       let q = place_of J.sound.order.cols asked.column J.column_below in
-      let e = begun.requires.p_value.0 in
+      let e = begun.requires.placed.0 in
       (omega (arith, e, q.0), ap col e ∙ q.1)
 
   p_small : begun.args.p < max_size
@@ -117,8 +117,8 @@ sweep-requires c =
     let start = (goal.at.sweep-requires c).Start in
     let after_window_end_end = (goal.at.sweep-requires c).After-window_end-end in
     let L = (J start).sound in record {
-      good = (rows_good L, L.long.order_rows_fit, L.order.rows.below);
-      from_le_to = (omega (arith, (ending after_window_end_end).after), (ending after_window_end_end).within, placed_below (cols_placed start), length-set (unset after_window_end_end) _ true ∙ unset_long after_window_end_end);
+      rows_good = (rows_good L, L.long.order_rows_fit, L.order.rows.below);
+      window = (omega (arith, (ending after_window_end_end).after), (ending after_window_end_end).within, placed_below (cols_placed start), length-set (unset after_window_end_end) _ true ∙ unset_long after_window_end_end);
     }
 
 -- The places before the window's end have been swept.
@@ -189,34 +189,34 @@ returns-then-met-eq0 c =
     let start = (goal.at.returns-then-met-eq0 c).Start in
     record {
       judges = judged_singular (J start) (none_met (goal.at.returns-then-met-eq0 c).After-hits-met c.if-met-eq0.true);
-      places_len = ((rows_placed start).long, c.requires.p_value.3);
+      lengths = ((rows_placed start).long, c.requires.placed.3);
     }
 
 pub peel-requires : goal.peel-requires
 peel-requires c =
     let start = (goal.at.peel-requires c).Start in
     let L = (J start).sound in record {
-      good = (columns_good L, rows_good L, L.agree);
-      m_in_bounds = (L.long.order_rows_fit, L.long.order_cols_fit, L.order);
-      c_lt_m = ((J start).column_below, (J start).new_rise, c.requires.p_value.0);
-      counts_len = (c.requires.p_value.3, cols_placed start, rows_placed start);
+      listings = (columns_good L, rows_good L, L.agree);
+      order = (L.long.order_rows_fit, L.long.order_cols_fit, L.order);
+      column = ((J start).column_below, (J start).new_rise, c.requires.placed.0);
+      placed = (c.requires.placed.3, cols_placed start, rows_placed start);
     }
 
 pub returns-then-peel : goal.returns-then-peel
 returns-then-peel c = let k = c.peel.ensures in record {
   judges = judged_permuted (J (goal.at.returns-then-peel c).Start) (k.told.yes c.if-peel.true);
-  places_len = (k.places_len.0, k.places_len.2);
+  lengths = (k.lengths.0, k.lengths.2);
 }
 
 pub place_all-requires : goal.place_all-requires
 place_all-requires c =
     let L = (J (goal.at.place_all-requires c).Start).sound in
-    (L.sized.1, L.long.order_rows_fit, L.order.rows, c.peel.ensures.places_len.0)
+    (L.sized.1, L.long.order_rows_fit, L.order.rows, c.peel.ensures.lengths.0)
 
 pub place_all-requires-then-met-eq1 : goal.place_all-requires-then-met-eq1
 place_all-requires-then-met-eq1 c =
     let L = (J (goal.at.place_all-requires-then-met-eq1 c).Start).sound in
-    (L.sized.1, L.long.order_cols_fit, L.order.cols, c.peel.ensures.places_len.1)
+    (L.sized.1, L.long.order_cols_fit, L.order.cols, c.peel.ensures.lengths.1)
 
 -- What is known where the ways join.
 module _ (c : Joined-met-eq1) where
@@ -254,8 +254,8 @@ module _ (c : Joined-met-eq1) where
 
   counts_long : length c.if-met-eq1.counts ≡ max_size
   counts_long = elim c.if-met-eq1.branch [
-    | then-met-eq1+else-peel w ↦ ap length w.counts-is ∙ w.peel.ensures.places_len.2
-    | else-met-eq1 w ↦ ap length w.counts-is ∙ c.requires.p_value.3
+    | then-met-eq1+else-peel w ↦ ap length w.counts-is ∙ w.peel.ensures.lengths.2
+    | else-met-eq1 w ↦ ap length w.counts-is ∙ c.requires.placed.3
   ]
 
   met : (x : ℕ) × Met (J start_of_met_eq1) x
@@ -265,8 +265,8 @@ pub sweep-requires-2 : goal.sweep-requires-2
 sweep-requires-2 c =
     let L = (J (goal.at.sweep-requires-2 c).Start).sound in
     record {
-      good = (rows_good L, L.long.order_rows_fit, L.order.rows.below);
-      from_le_to = ((ending (goal.at.sweep-requires-2 c).After-window_end-end).within, omega arith, placed_below (cols_again (goal.at.sweep-requires-2 c).Joined-met-eq1), c.sweep.ensures.0);
+      rows_good = (rows_good L, L.long.order_rows_fit, L.order.rows.below);
+      window = ((ending (goal.at.sweep-requires-2 c).After-window_end-end).within, omega arith, placed_below (cols_again (goal.at.sweep-requires-2 c).Joined-met-eq1), c.sweep.ensures.0);
     }
 
 -- All places have been swept.
@@ -286,14 +286,14 @@ eliminate-requires c =
     let start = (goal.at.eliminate-requires c).Start in
     let joined_met_eq1 = (goal.at.eliminate-requires c).Joined-met-eq1 in
     record {
-      m_le_max_size = ((J start).sound.sized.1, c.requires.judgeable.1, placed_below (rows_again joined_met_eq1));
-      rising = ((J start).new_rise, c_before_top (J start) (met joined_met_eq1).0 (met joined_met_eq1).1 c.requires.p_value.0 (rows_again joined_met_eq1));
+      in_range = ((J start).sound.sized.1, c.requires.judgeable.1, placed_below (rows_again joined_met_eq1));
+      new_rise = ((J start).new_rise, c_before_top (J start) (met joined_met_eq1).0 (met joined_met_eq1).1 c.requires.placed.0 (rows_again joined_met_eq1));
     }
 
 pub returns : goal.returns
 returns c =
     let joined_met_eq1 = (goal.at.returns c).Joined-met-eq1 in
     record {
-      judges = judged_elimination (J (goal.at.returns c).Start) (met joined_met_eq1).0 (met joined_met_eq1).1 (none joined_met_eq1) c.requires.p_value.0 (found (goal.at.returns c).After-sweep-2) (rows_again joined_met_eq1) c.eliminate.ensures;
-      places_len = ((rows_again joined_met_eq1).long, counts_long joined_met_eq1);
+      judges = judged_elimination (J (goal.at.returns c).Start) (met joined_met_eq1).0 (met joined_met_eq1).1 (none joined_met_eq1) c.requires.placed.0 (found (goal.at.returns c).After-sweep-2) (rows_again joined_met_eq1) c.eliminate.ensures;
+      lengths = ((rows_again joined_met_eq1).long, counts_long joined_met_eq1);
     }

@@ -18,10 +18,10 @@ module _ (c : After-wide) where
   rows = spiked_part c.args.cs.now c.args.cr.now c.args.c c.args.new.now
 
 pub loop-t-init : goal.loop-t-init
-loop-t-init c = (omega arith, c.requires.p_le_end.0, record { long = c.requires.p_le_end.3; stand = λ t a b. absurd (omega arith) })
+loop-t-init c = (omega arith, c.requires.window.0, record { long = c.requires.window.3; stand = λ t a b. absurd (omega arith) })
 
 pub count_of-requires : goal.count_of-requires
-count_of-requires c = rw c.wide.ensures (c.requires.by_index c.loop-t.t (omega arith))
+count_of-requires c = rw c.wide.ensures (c.requires.readable c.loop-t.t (omega arith))
 
 pub loop-t-preserved : goal.loop-t-preserved
 loop-t-preserved c =
@@ -35,7 +35,7 @@ loop-t-preserved c =
         long = length-set l.counts l.t n ∙ l.invariant.2.long;
         stand = λ u a b. ⊎_elim
             (λ h. get_or-set_other l.counts l.t u n 0 (λ z. omega arith) ∙ l.invariant.2.stand u a h)
-            (λ z. rw z (get_or-set_same l.counts l.t n 0 (omega (arith, l.invariant.2.long, c.requires.p_le_end.1)) ∙ e))
+            (λ z. rw z (get_or-set_same l.counts l.t n 0 (omega (arith, l.invariant.2.long, c.requires.window.1)) ∙ e))
             (last_or l.t u (omega arith));
       },
     )

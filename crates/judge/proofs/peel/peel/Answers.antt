@@ -40,29 +40,29 @@ module _ (s : Start) where
   given : Given s.args.m s.args.cs.now s.args.cr.now s.args.rs.now s.args.rc.now s.args.or.now s.args.oc.now s.args.c s.args.new.now s.args.p
   given =
       record {
-        columns = s.requires.good.0;
-        rows = s.requires.good.1;
-        same = s.requires.good.2;
-        order = s.requires.m_in_bounds.2;
-        inside = s.requires.c_lt_m.0;
-        rise = s.requires.c_lt_m.1;
-        c_place = s.requires.c_lt_m.2;
+        columns = s.requires.listings.0;
+        rows = s.requires.listings.1;
+        same = s.requires.listings.2;
+        order = s.requires.order.2;
+        inside = s.requires.column.0;
+        rise = s.requires.column.1;
+        c_place = s.requires.column.2;
       }
 
   small : s.args.m ≤ max_size
-  small = s.requires.good.0.small
+  small = s.requires.listings.0.small
 
   p_low : s.args.p < s.args.m
   p_low = (p_in s.args.or.now s.args.oc.now given).0
 
   -- The place of a new row is one.
   new_placed : (x : ℕ) → T (has s.args.new.now x) → at s.args.places.now x < s.args.m
-  new_placed x u = placed_below s.requires.counts_len.2 x (rising_below s.requires.c_lt_m.1 x u)
+  new_placed x u = placed_below s.requires.placed.2 x (rising_below s.requires.column.1 x u)
 
 pub window_end-end-requires : goal.window_end-end-requires
 window_end-end-requires c =
     let start = (goal.at.window_end-end-requires c).Start in
-    (omega (arith, p_low start, small start), λ k h. omega (arith, c.requires.c_lt_m.1.below k h, small start), λ x u. omega (arith, new_placed start x u, small start))
+    (omega (arith, p_low start, small start), λ k h. omega (arith, c.requires.column.1.below k h, small start), λ x u. omega (arith, new_placed start x u, small start))
 
 -- The window's end is known.
 module _ (c : After-window_end-end) where
@@ -73,7 +73,7 @@ module _ (c : After-window_end-end) where
   end = c.window_end-end.result
 
   ending : Ends c.args.m (row start) c.args.new.now c.args.p end
-  ending = ends (p_low start) c.requires.c_lt_m.1 c.requires.counts_len.2 c.window_end-end.ensures
+  ending = ends (p_low start) c.requires.column.1 c.requires.placed.2 c.window_end-end.ensures
 
   window : Window c.args.m (S start) (row start) (col start) end
   window = given_window c.args.or.now c.args.oc.now (given start) ending
@@ -84,23 +84,23 @@ module _ (c : After-window_end-end) where
 pub free-requires : goal.free-requires
 free-requires c =
     let D = ending (goal.at.free-requires c).After-window_end-end in
-    (omega (arith, D.after), omega (arith, D.within, c.requires.m_in_bounds.0), λ t h. omega (arith, c.requires.m_in_bounds.2.rows.below t (omega (arith, D.within)), small (goal.at.free-requires c).Start), c.requires.counts_len.2.long)
+    (omega (arith, D.after), omega (arith, D.within, c.requires.order.0), λ t h. omega (arith, c.requires.order.2.rows.below t (omega (arith, D.within)), small (goal.at.free-requires c).Start), c.requires.placed.2.long)
 
 pub flag-requires : goal.flag-requires
 flag-requires c =
-    (λ k h. omega (arith, c.requires.c_lt_m.1.below k h, small (goal.at.flag-requires c).Start), c.free.ensures.long)
+    (λ k h. omega (arith, c.requires.column.1.below k h, small (goal.at.flag-requires c).Start), c.free.ensures.long)
 
 pub count_left-requires : goal.count_left-requires
 count_left-requires c =
     let after_window_end_end = (goal.at.count_left-requires c).After-window_end-end in
     let D = ending after_window_end_end in record {
-      p_le_end = (omega (arith, D.after), end_small after_window_end_end, omega (arith, D.within, c.requires.m_in_bounds.1), c.requires.counts_len.0);
-      by_index = λ t h. spiked_readable c.requires.good.0 c.requires.c_lt_m.0 c.requires.c_lt_m.1 (col (goal.at.count_left-requires c).Start t) (c.requires.m_in_bounds.2.cols.below t (omega (arith, D.within)));
+      window = (omega (arith, D.after), end_small after_window_end_end, omega (arith, D.within, c.requires.order.1), c.requires.placed.0);
+      readable = λ t h. spiked_readable c.requires.listings.0 c.requires.column.0 c.requires.column.1 (col (goal.at.count_left-requires c).Start t) (c.requires.order.2.cols.below t (omega (arith, D.within)));
     }
 
 pub loop-n-init : goal.loop-n-init
 loop-n-init c =
-    peeling_start c.args.or.now c.args.oc.now (given (goal.at.loop-n-init c).Start) (ending (goal.at.loop-n-init c).After-window_end-end) c.requires.counts_len.2 c.free.ensures c.flag.ensures c.requires.counts_len.1 c.count_left.ensures
+    peeling_start c.args.or.now c.args.oc.now (given (goal.at.loop-n-init c).Start) (ending (goal.at.loop-n-init c).After-window_end-end) c.requires.placed.2 c.free.ensures c.flag.ensures c.requires.placed.1 c.count_left.ensures
 
 pub next_one-t-requires : goal.next_one-t-requires
 next_one-t-requires c = omega (arith, c.loop-n.invariant.within, end_small (goal.at.next_one-t-requires c).After-window_end-end)
@@ -115,7 +115,7 @@ returns-then-t-end c =
     let none = subst (Searched c.loop-n.counts c.args.p) c.if-t-end.true (searched (goal.at.returns-then-t-end c).After-next_one-t) in
     record {
       told = told_no (peeling_stuck c.args.or.now c.args.oc.now (given (goal.at.returns-then-t-end c).Start) (ending (goal.at.returns-then-t-end c).After-window_end-end) c.loop-n.invariant (omega arith) none);
-      places_len = (c.loop-n.invariant.placed.long, c.loop-n.invariant.moved.long, c.loop-n.invariant.left.long);
+      lengths = (c.loop-n.invariant.placed.long, c.loop-n.invariant.moved.long, c.loop-n.invariant.left.long);
     }
 
 -- Its column and the place are in range.
@@ -130,14 +130,14 @@ module _ (c : After-wide-y) where
   before_end = omega (arith, c.next_one-t.ensures.within)
 
   col_in : c.wide-y.result < c.args.m
-  col_in = omega (arith, c.wide-y.ensures, c.requires.m_in_bounds.2.cols.below c.next_one-t.result (omega (arith, before_end, (ending after_window_end_end).within)))
+  col_in = omega (arith, c.wide-y.ensures, c.requires.order.2.cols.below c.next_one-t.result (omega (arith, before_end, (ending after_window_end_end).within)))
 
   -- Its rows.
   abbrev rows : List ℕ
   rows = spiked_part c.args.cs.now c.args.cr.now c.args.c c.args.new.now c.wide-y.result
 
   rows_are : column (S start_of_wide_y) (col start_of_wide_y c.next_one-t.result) ≡ rows
-  rows_are = ap (column (S start_of_wide_y)) (sym c.wide-y.ensures) ∙ spiked_is c.requires.good.0 c.requires.c_lt_m.0 c.requires.c_lt_m.1 c.wide-y.result col_in
+  rows_are = ap (column (S start_of_wide_y)) (sym c.wide-y.ensures) ∙ spiked_is c.requires.listings.0 c.requires.column.0 c.requires.column.1 c.wide-y.result col_in
 
   one_left : at c.loop-n.counts c.next_one-t.result ≡ 1
   one_left = c.next_one-t.ensures.there before_end
@@ -152,12 +152,12 @@ offset_bounds-oc-t c = omega (arith, c.next_one-t.ensures.within, end_small (goa
 
 pub bounds-oc-t : goal.bounds-oc-t
 bounds-oc-t c =
-    omega (arith, c.next_one-t.ensures.within, (ending (goal.at.bounds-oc-t c).After-window_end-end).within, c.requires.m_in_bounds.1)
+    omega (arith, c.next_one-t.ensures.within, (ending (goal.at.bounds-oc-t c).After-window_end-end).within, c.requires.order.1)
 
 pub column_left-x-requires : goal.column_left-x-requires
 column_left-x-requires c =
     let after_wide_y = (goal.at.column_left-x-requires c).After-wide-y in
-    let G = c.requires.good.0 in
+    let G = c.requires.listings.0 in
     (omega (arith, col_in after_wide_y, G.room.starts_long), good_within G c.wide-y.result (col_in after_wide_y), some_left after_wide_y)
 
 -- Its one row without a place has been found.
@@ -199,7 +199,7 @@ module _ (c : After-column_left-x) where
 pub part-requires : goal.part-requires
 part-requires c =
     let after_column_left_x = (goal.at.part-requires c).After-column_left-x in
-    let G = c.requires.good.1 in
+    let G = c.requires.listings.1 in
     (omega (arith, row_in after_column_left_x, G.room.starts_long), good_within G (x after_column_left_x) (row_in after_column_left_x))
 
 -- Its columns are at hand.
@@ -288,7 +288,7 @@ pub returns : goal.returns
 returns c =
     record {
       told = told_yes (peeling_all c.args.or.now c.args.oc.now (given (goal.at.returns c).Start) (ending (goal.at.returns c).After-window_end-end) c.loop-n.invariant (omega (arith, c.loop-n.invariant.upto)));
-      places_len = (c.loop-n.invariant.placed.long, c.loop-n.invariant.moved.long, c.loop-n.invariant.left.long);
+      lengths = (c.loop-n.invariant.placed.long, c.loop-n.invariant.moved.long, c.loop-n.invariant.left.long);
     }
 
 pub offset_bounds-places-x : goal.offset_bounds-places-x

@@ -38,19 +38,19 @@ module _ (c : After-wide-r) where
   base = start_of (turned c.args.m (P after_part_column))
 
   turn : Turn c.args.m (P after_part_column) c.args.j c.loop-k.k c.wide-r.result
-  turn = turn_of c.requires.j_lt_m.1 c.requires.j_lt_m.0 c.part-column.ensures (omega arith) c.wide-r.ensures
+  turn = turn_of c.requires.good.1 c.requires.good.0 c.part-column.ensures (omega arith) c.wide-r.ensures
 
   fits : base c.args.m ≤ length cols
-  fits = omega (arith, turned_start c.requires.j_lt_m.1, c.loop-k.invariant.3.long)
+  fits = omega (arith, turned_start c.requires.good.1, c.loop-k.invariant.3.long)
 
   room : cursor < base (c.wide-r.result + 1)
-  room = walked_room turn c.loop-k.invariant.2 fits (omega (arith, row_ends c.requires.j_lt_m.1 c.wide-r.result (row_in turn)))
+  room = walked_room turn c.loop-k.invariant.2 fits (omega (arith, row_ends c.requires.good.1 c.wide-r.result (row_in turn)))
 
   -- The row and its cursor are in range, and the cursor is before the end of the rows.
   row_ok : (c.wide-r.result < max_size) × (cursor < at c.args.starts.now c.args.m) × (cursor < length cols) × (cursor < max_total)
   row_ok =
       let within = tally_more (λ i. length (column (turned c.args.m (P after_part_column)) i)) (c.wide-r.result + 1) c.args.m (omega (arith, row_in turn)) in
-      omega (arith, row_in turn, turn.small, room, fits, turned_start c.requires.j_lt_m.1, c.requires.j_lt_m.1.formed.starts_right.total)
+      omega (arith, row_in turn, turn.small, room, fits, turned_start c.requires.good.1, c.requires.good.1.formed.starts_right.total)
 
   goes_on : (v : ℕ) → v ≡ cursor + 1
       → Walked c.args.m base (set cols cursor c.args.j) (λ r. met (P after_part_column) r c.args.j (c.loop-k.k + 1))
@@ -60,7 +60,7 @@ module _ (c : After-wide-r) where
       (get_or-set_same cols cursor c.args.j 0 row_ok.2) (λ q n. get_or-set_other cols cursor q c.args.j 0 n)
 
 pub part-column-requires : goal.part-column-requires
-part-column-requires c = omega (arith, good_within c.requires.j_lt_m.1 c.args.j c.requires.j_lt_m.0)
+part-column-requires c = omega (arith, good_within c.requires.good.1 c.args.j c.requires.good.0)
 
 pub loop-k-init : goal.loop-k-init
 loop-k-init c = (omega arith, refl, walked_as (λ r h. sym (met_none (P (goal.at.loop-k-init c).After-part-column) r c.args.j)) c.requires.walked, kept_all)
@@ -73,7 +73,7 @@ loop-k-preserved c =
 
 pub returns : goal.returns
 returns c =
-    (walked_as (column_read c.requires.j_lt_m.1 c.requires.j_lt_m.0 c.part-column.ensures c.loop-k.k (omega arith)) c.loop-k.invariant.2, c.loop-k.invariant.3)
+    (walked_as (column_read c.requires.good.1 c.requires.good.0 c.part-column.ensures c.loop-k.k (omega arith)) c.loop-k.invariant.2, c.loop-k.invariant.3)
 
 pub offset_bounds-next-r : goal.offset_bounds-next-r
 offset_bounds-next-r c = omega (arith, row_ok (goal.at.offset_bounds-next-r c).After-wide-r)

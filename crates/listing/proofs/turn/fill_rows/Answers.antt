@@ -12,7 +12,7 @@ loop-j-init c = (omega arith, c.requires.walked, kept_all)
 
 pub fill_column-requires : goal.fill_column-requires
 fill_column-requires c =
-    record { j_lt_m = (omega arith, c.requires.good.0, omega (arith, c.loop-j.invariant.2.long)); walked = c.loop-j.invariant.1 }
+    record { good = (omega arith, c.requires.good.0, omega (arith, c.loop-j.invariant.2.long)); walked = c.loop-j.invariant.1 }
 
 pub loop-j-preserved : goal.loop-j-preserved
 loop-j-preserved c = let e = c.fill_column.ensures in (omega arith, e.0, kept_on c.loop-j.invariant.2 e.1)

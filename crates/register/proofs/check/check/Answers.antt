@@ -14,7 +14,7 @@ returns-then-not-long_enough c = record {
 pub contents-requires : goal.contents-requires
 contents-requires c = record {
   sized = (omega arith, shown c.long_enough.ensures c.if-not-long_enough.false);
-  next_len = c.requires;
+  scratch = c.requires;
 }
 
 pub returns : goal.returns

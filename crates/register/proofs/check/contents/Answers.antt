@@ -127,18 +127,18 @@ returns c =
     }
 
 pub clear-requires : goal.clear-requires
-clear-requires c = c.requires.next_len.1
+clear-requires c = c.requires.scratch.1
 
 pub enter-entered-requires : goal.enter-entered-requires
 enter-entered-requires c = record {
-  m_le_max_size = (c.requires.sized.0.1, c.requires.sized.1.order_rows_fit);
-  places_len = c.clear.ensures;
+  in_range = (c.requires.sized.0.1, c.requires.sized.1.order_rows_fit);
+  none_placed = c.clear.ensures;
 }
 
 pub same-requires : goal.same-requires
 same-requires c =
     let after_enter_entered = (goal.at.same-requires c).After-enter-entered in
-    (cols_good after_enter_entered, c.requires.sized.1.rows_fit, row_starts after_enter_entered, c.requires.next_len.0, c.requires.next_len.2)
+    (cols_good after_enter_entered, c.requires.sized.1.rows_fit, row_starts after_enter_entered, c.requires.scratch.0, c.requires.scratch.2)
 
 pub unlike-requires : goal.unlike-requires
 unlike-requires c = (c.requires.sized.1.rows_fit, row_starts (goal.at.unlike-requires c).After-enter-entered)

@@ -7,7 +7,7 @@ use Rattle.register.proofs.Orders.{entered_none, entered_twice, entered_more, en
 use Rattle.register.proofs.order.enter.Goals as goal
 
 pub loop-t-init : goal.loop-t-init
-loop-t-init c = (omega arith, entered_none _ c.requires.places_len.0 (λ x h. omega (arith, c.requires.places_len.1 x h)))
+loop-t-init c = (omega arith, entered_none _ c.requires.none_placed.0 (λ x h. omega (arith, c.requires.none_placed.1 x h)))
 
 pub returns-then-m-x : goal.returns-then-m-x
 returns-then-m-x c = told_no (λ o. omega (arith, o.below c.loop-t.t (omega arith)))

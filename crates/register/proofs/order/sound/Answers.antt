@@ -8,7 +8,7 @@ use Rattle.register.proofs.Tops.{tops_sound, sound_tops}
 use Rattle.register.proofs.order.sound.Goals as goal
 
 pub enter-requires : goal.enter-requires
-enter-requires c = record { m_le_max_size = omega arith; places_len = (refl, λ x h. get_or-replicate 1000 x 1000 0 h) }
+enter-requires c = record { in_range = omega arith; none_placed = (refl, λ x h. get_or-replicate 1000 x 1000 0 h) }
 
 pub returns-then-not-enter : goal.returns-then-not-enter
 returns-then-not-enter c = told_no (λ p. refuted c.enter.ensures c.if-not-enter.true p.rows)

@@ -17,7 +17,7 @@ use Rattle.register.proofs.same.meet.Goals.{After-wide, After-wide-r, then-top-p
 
 pub loop-k-init : goal.loop-k-init
 unfolding greatest
-loop-k-init c = (omega arith, past_none c.args.rows.now c.requires.j_lt_max_size.2, refl)
+loop-k-init c = (omega arith, past_none c.args.rows.now c.requires.in_range.2, refl)
 
 -- A turn, at row r.
 module _ (c : After-wide-r) where
@@ -32,18 +32,18 @@ module _ (c : After-wide-r) where
 
   -- The row is in range, and its cursor is not great.
   row_in : r < max_size
-  row_in = omega (arith, c.wide-r.ensures, c.requires.j_lt_max_size.1.below c.loop-k.k (omega arith))
+  row_in = omega (arith, c.wide-r.ensures, c.requires.in_range.1.below c.loop-k.k (omega arith))
 
   cursor_in : cursor ≤ max_total + max_size
-  cursor_in = cursor_most c.requires.j_lt_max_size.1 (omega arith) c.wide-r.ensures c.loop-k.invariant.1 c.requires.by_index
+  cursor_in = cursor_most c.requires.in_range.1 (omega arith) c.wide-r.ensures c.loop-k.invariant.1 c.requires.cursors_low
 
   -- Where all rows have column j next, this one has; and where it has, the rows up to it have been read.
   is_next : AllNext cols c.args.j c.args.rows.now c.args.next.now → (cursor < length cols) × (at cols cursor ≡ c.args.j)
-  is_next = has_next c.requires.j_lt_max_size.1 (omega arith) c.wide-r.ensures c.loop-k.invariant.1
+  is_next = has_next c.requires.in_range.1 (omega arith) c.wide-r.ensures c.loop-k.invariant.1
 
   goes_on : cursor < length cols → at cols cursor ≡ c.args.j → (v : ℕ) → v ≡ cursor + 1
       → Past cols c.args.j (take (c.loop-k.k + 1) c.args.rows.now) c.args.next.now (set c.loop-k.next r v)
-  goes_on = past_more c.requires.j_lt_max_size.1 (omega arith) c.wide-r.ensures c.loop-k.invariant.1 row_in
+  goes_on = past_more c.requires.in_range.1 (omega arith) c.wide-r.ensures c.loop-k.invariant.1 row_in
 
   higher : greatest (at c.args.places.now) (take (c.loop-k.k + 1) c.args.rows.now) ≡ max c.loop-k.top (at c.args.places.now r)
   higher =

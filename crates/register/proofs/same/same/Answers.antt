@@ -59,8 +59,8 @@ pub meet-requires : goal.meet-requires
 meet-requires c =
     let after_part = (goal.at.meet-requires c).After-part in
     let l = c.loop-j in record {
-      j_lt_max_size = (omega (arith, c.requires.0.small), rising_within c.requires.0.small (rise after_part), l.invariant.2.cursors.long, l.invariant.1);
-      by_index = λ r t. cursor_small c.requires.1 c.requires.2 (P (goal.at.meet-requires c).Start) l.j l.invariant.2.cursors (omega (arith, c.requires.0.small)) r (rising_below (rise after_part) r t);
+      in_range = (omega (arith, c.requires.0.small), rising_within c.requires.0.small (rise after_part), l.invariant.2.cursors.long, l.invariant.1);
+      cursors_low = λ r t. cursor_small c.requires.1 c.requires.2 (P (goal.at.meet-requires c).Start) l.j l.invariant.2.cursors (omega (arith, c.requires.0.small)) r (rising_below (rise after_part) r t);
     }
 
 pub returns-then-not-meet : goal.returns-then-not-meet

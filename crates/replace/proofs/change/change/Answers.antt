@@ -19,7 +19,7 @@ a s =
 
 -- The place of c.
 p_is : (s : Start) {p : ℕ} → p ≡ at s.args.old.now s.args.c → p ≡ place (at s.args.oc.now) s.args.m s.args.c
-p_is s e = e ∙ s.requires.work_len.1.stand s.args.c s.requires.judgeable.0.column_below
+p_is s e = e ∙ s.requires.placed.1.stand s.args.c s.requires.judgeable.0.column_below
 
 pub offset_bounds-old-c : goal.offset_bounds-old-c
 offset_bounds-old-c c = omega (arith, c.requires.judgeable.0.column_below, c.requires.judgeable.0.sound.sized)
@@ -31,7 +31,7 @@ pub judge-judgment-requires : goal.judge-judgment-requires
 judge-judgment-requires c =
     record {
       judgeable = c.requires.judgeable;
-      p_value = (p_is (goal.at.judge-judgment-requires c).Start c.wide-p.ensures, c.requires.work_len.1, c.requires.work_len.2, c.requires.work_len.0);
+      placed = (p_is (goal.at.judge-judgment-requires c).Start c.wide-p.ensures, c.requires.placed.1, c.requires.placed.2, c.requires.placed.0);
     }
 
 pub permute-requires : goal.permute-requires
@@ -39,7 +39,7 @@ permute-requires c =
     let k = told_permuted c.in-Permuted.is c.judge-judgment.ensures.judges in
     record {
       judgeable = (judgeable_with c.requires.judgeable.0 [], c.requires.new_fits);
-      work_len = (c.judge-judgment.ensures.places_len.1, placed_below k.rows_placed, placed_below k.cols_placed);
+      places_low = (c.judge-judgment.ensures.lengths.1, placed_below k.rows_placed, placed_below k.cols_placed);
     }
 
 pub clear-requires : goal.clear-requires
@@ -47,8 +47,8 @@ clear-requires c =
     let k = told_elimination c.in-Elimination.is c.judge-judgment.ensures.judges in
     record {
       judgeable = (judgeable_with c.requires.judgeable.0 [], c.requires.new_fits);
-      not_no_choice = k.right.not_singular;
-      p_value = (p_is (goal.at.clear-requires c).Start c.wide-p.ensures, c.judge-judgment.ensures.places_len.1, c.judge-judgment.ensures.places_len.0);
+      choice_left = k.right.not_singular;
+      placed = (p_is (goal.at.clear-requires c).Start c.wide-p.ensures, c.judge-judgment.ensures.lengths.1, c.judge-judgment.ensures.lengths.0);
     }
 
 pub returns-in-Singular : goal.returns-in-Singular

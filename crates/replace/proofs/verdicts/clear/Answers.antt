@@ -31,7 +31,7 @@ module _ (s : Start) where
 
   -- The place of c.
   p_is : s.args.p ≡ place (at a.lists.order_cols) a.size a.column
-  p_is = s.requires.p_value.0
+  p_is = s.requires.placed.0
 
   p_in : s.args.p < a.size
   p_in = omega (arith, p_is, (place_of J.sound.order.cols a.column J.column_below).0)
@@ -72,23 +72,23 @@ join-n-requires c =
     let start = (goal.at.join-n-requires c).Start in (
       record { below = λ i h. omega (arith, (J start).new_rise.below i h, (J start).sound.sized); rises = (J start).new_rise.rises },
       omega (arith, r_below start c.wide-r.ensures, (J start).sound.sized),
-      omega (arith, c.requires.p_value.2),
+      omega (arith, c.requires.placed.2),
     )
 
 pub first-requires : goal.first-requires
 first-requires c =
-    omega (arith, c.join-n.ensures.0, c.join-n.auto.list, joined_short max_size c.wide-r.result (a (goal.at.first-requires c).Start).new_rows, c.requires.p_value.2)
+    omega (arith, c.join-n.ensures.0, c.join-n.auto.list, joined_short max_size c.wide-r.result (a (goal.at.first-requires c).Start).new_rows, c.requires.placed.2)
 
 pub store-requires : goal.store-requires
 store-requires c =
     let start = (goal.at.store-requires c).Start in
     let after_first = (goal.at.store-requires c).After-first in
     let S = (J start).sound in
-    let R = cleared_room (J start) (r_is start c.wide-r.ensures) (rows_are after_first) c.requires.judgeable.1 c.requires.not_no_choice in
+    let R = cleared_room (J start) (r_is start c.wide-r.ensures) (rows_are after_first) c.requires.judgeable.1 c.requires.choice_left in
     record {
       good = (columns_good S, rows_good S, S.agree, (J start).column_below, rw (rows_are after_first) (joined_rises (a start).size c.wide-r.result (a start).new_rows));
-      entry = (λ h. r_paired start c.wide-r.ensures, c.requires.p_value.1);
-      m_bound = (R.few, R.in_columns, R.in_rows);
+      entry = (λ h. r_paired start c.wide-r.ensures, c.requires.placed.1);
+      room = (R.few, R.in_columns, R.in_rows);
     }
 
 pub move_last-requires : goal.move_last-requires
@@ -104,4 +104,4 @@ move_last-requires-2 c =
 pub returns : goal.returns
 returns c =
     let start = (goal.at.returns c).Start in
-    cleared_stored (J start) (r_is start c.wide-r.ensures) (rows_are (goal.at.returns c).After-first) c.args.p c.store.ensures.held c.store.ensures.held_2 c.move_last.ensures c.move_last-2.ensures
+    cleared_stored (J start) (r_is start c.wide-r.ensures) (rows_are (goal.at.returns c).After-first) c.args.p c.store.ensures.columns_held c.store.ensures.rows_held c.move_last.ensures c.move_last-2.ensures

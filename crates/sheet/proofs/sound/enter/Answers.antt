@@ -22,13 +22,13 @@ module _ (c : After-known_pair-pair) where
 
   met : PairMet c.args.bytes.now c.args.m c.args.place o c.loop-t.t
       c.known_pair-pair.result.row c.known_pair-pair.result.column c.known_pair-pair.result.next
-  met = pair_met _ _ c.requires.m_le_max_size.0 c.loop-t.invariant.0 (omega arith) _ _ c.known_pair-pair.ensures
+  met = pair_met _ _ c.requires.got.0 c.loop-t.invariant.0 (omega arith) _ _ c.known_pair-pair.ensures
 
 pub loop-t-init : goal.loop-t-init
-loop-t-init c = (left_none c.requires.m_le_max_size.1, entered_none _ c.requires.places_len.0 (λ x h. omega (arith, c.requires.places_len.1 x h)))
+loop-t-init c = (left_none c.requires.got.1, entered_none _ c.requires.none_placed.0 (λ x h. omega (arith, c.requires.none_placed.1 x h)))
 
 pub known_pair-pair-requires : goal.known_pair-pair-requires
-known_pair-pair-requires c = pair_known _ _ c.requires.m_le_max_size.0 c.loop-t.invariant.0 (omega arith)
+known_pair-pair-requires c = pair_known _ _ c.requires.got.0 c.loop-t.invariant.0 (omega arith)
 
 pub offset_bounds-places-pair : goal.offset_bounds-places-pair
 offset_bounds-places-pair c = let b = (met (goal.at.offset_bounds-places-pair c).After-known_pair-pair).row_below in search rules

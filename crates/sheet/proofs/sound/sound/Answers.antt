@@ -9,8 +9,8 @@ use Rattle.sheet.proofs.sound.sound.Goals as goal
 
 pub enter-requires : goal.enter-requires
 enter-requires c = record {
-  m_le_max_size = (c.requires.0, c.requires.2);
-  places_len = (refl, λ x h. get_or-replicate 1000 x 1000 0 h);
+  got = (c.requires.0, c.requires.2);
+  none_placed = (refl, λ x h. get_or-replicate 1000 x 1000 0 h);
 }
 
 pub returns-then-not-enter : goal.returns-then-not-enter

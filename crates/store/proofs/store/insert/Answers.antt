@@ -37,7 +37,7 @@ module _ (c : After-wide-to) where
   total = filled_total c.requires.good.0 new c.requires.good.1 c.requires.good.2
 
   fits : at cs m + length new ≤ length c.args.cr.now
-  fits = omega (arith, total, c.requires.m_bound.1)
+  fits = omega (arith, total, c.requires.room.1)
 
 pub move_up-requires : goal.move_up-requires
 move_up-requires c =
@@ -47,15 +47,15 @@ move_up-requires c =
 pub raise-requires : goal.raise-requires
 raise-requires c =
     let after_wide_to = (goal.at.raise-requires c).After-wide-to in
-    (omega (arith, c.requires.good.1), c.requires.good.0.room.starts_long, λ k h. omega (arith, rise after_wide_to k h, total after_wide_to, c.requires.m_bound.0))
+    (omega (arith, c.requires.good.1), c.requires.good.0.room.starts_long, λ k h. omega (arith, rise after_wide_to k h, total after_wide_to, c.requires.room.0))
 
 pub copy-requires : goal.copy-requires
 copy-requires c =
     let after_wide_to = (goal.at.copy-requires c).After-wide-to in
-    filled_room c.requires.good.0 (new after_wide_to) c.requires.good.1 c.requires.good.2 (begins after_wide_to) (ends after_wide_to) refl c.requires.m_bound.1 c.move_up.ensures
+    filled_room c.requires.good.0 (new after_wide_to) c.requires.good.1 c.requires.good.2 (begins after_wide_to) (ends after_wide_to) refl c.requires.room.1 c.move_up.ensures
 
 pub returns : goal.returns
 returns c =
     let after_wide_to = (goal.at.returns c).After-wide-to in
-    filled_held c.requires.good.0 (new after_wide_to) c.requires.good.1 c.requires.good.2 (begins after_wide_to) (ends after_wide_to) refl c.requires.m_bound.1 c.move_up.ensures c.raise.ensures
+    filled_held c.requires.good.0 (new after_wide_to) c.requires.good.1 c.requires.good.2 (begins after_wide_to) (ends after_wide_to) refl c.requires.room.1 c.move_up.ensures c.raise.ensures
     c.copy.ensures

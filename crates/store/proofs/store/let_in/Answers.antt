@@ -32,7 +32,7 @@ module _ (c : After-below) where
 
   upto : at starts k + c.below.result ≤ at starts (k + 1)
   upto =
-      let W = c.requires.c_lt_max_size.3 in
+      let W = c.requires.within.3 in
       omega (arith, cut.within, between_length (at starts k) (at starts (k + 1)) entries W.in_list, W.no_fall)
 
 pub move_up-requires : goal.move_up-requires

@@ -8,7 +8,7 @@ use Rattle.store.proofs.store.spread.Goals.{After-wide-k}
 
 pub loop-i-init : goal.loop-i-init
 loop-i-init c =
-    spreading_none c.requires.good.0 c.requires.good.1 c.requires.good.2 c.requires.good.3 c.requires.these_bound.1 _ _ refl c.wide-end.ensures
+    spreading_none c.requires.good.0 c.requires.good.1 c.requires.good.2 c.requires.good.3 c.requires.room.1 _ _ refl c.wide-end.ensures
 
 -- A turn, once the number of its part has been read.
 module _ (c : After-wide-k) where
@@ -21,28 +21,28 @@ let_in-end-requires c =
     let p = c.requires in
     let S = c.loop-i.invariant in
     let e = c.wide-k.ensures in record {
-      c_lt_max_size = (
+      within = (
         omega (arith, p.good.0.small),
-        let_in_top p.good.0 p.good.1 p.good.2 p.good.3 p.these_bound.1 S _ (one after_wide_k) e,
+        let_in_top p.good.0 p.good.1 p.good.2 p.good.3 p.room.1 S _ (one after_wide_k) e,
         omega (arith, S.in_size, S.kept.long, p.good.0.room.starts_long),
-        let_in_within p.good.0 p.good.1 p.good.2 p.good.3 p.these_bound.1 S _ (one after_wide_k) e,
+        let_in_within p.good.0 p.good.1 p.good.2 p.good.3 p.room.1 S _ (one after_wide_k) e,
       );
-      k_bound = (
-        let_in_end p.good.0 p.good.1 p.good.2 p.good.3 p.these_bound.1 S _ (one after_wide_k) e,
-        let_in_room p.good.0 p.good.1 p.good.2 p.good.3 p.these_bound.1 S _ (one after_wide_k) e,
-        λ j h. omega (arith, spreading_start p.good.0 p.good.1 p.good.2 p.good.3 p.these_bound.1 S j h, S.upto, p.these_bound.0),
+      room = (
+        let_in_end p.good.0 p.good.1 p.good.2 p.good.3 p.room.1 S _ (one after_wide_k) e,
+        let_in_room p.good.0 p.good.1 p.good.2 p.good.3 p.room.1 S _ (one after_wide_k) e,
+        λ j h. omega (arith, spreading_start p.good.0 p.good.1 p.good.2 p.good.3 p.room.1 S j h, S.upto, p.room.0),
       );
     }
 
 pub loop-i-preserved : goal.loop-i-preserved
 loop-i-preserved c =
     let p = c.requires in
-    spreading_more p.good.0 p.good.1 p.good.2 p.good.3 p.these_bound.1 c.loop-i.invariant _ (one (goal.at.loop-i-preserved c).After-wide-k) c.wide-k.ensures c.let_in-end.ensures
+    spreading_more p.good.0 p.good.1 p.good.2 p.good.3 p.room.1 c.loop-i.invariant _ (one (goal.at.loop-i-preserved c).After-wide-k) c.wide-k.ensures c.let_in-end.ensures
 
 pub returns : goal.returns
 returns c =
     let p = c.requires in
-    spreading_all p.good.0 p.good.1 p.good.2 p.good.3 p.these_bound.1 c.loop-i.invariant (omega arith)
+    spreading_all p.good.0 p.good.1 p.good.2 p.good.3 p.room.1 c.loop-i.invariant (omega arith)
 
 pub bounds-these-i : goal.bounds-these-i
 bounds-these-i c = omega (arith, c.loop-i.invariant.upto)

@@ -41,15 +41,15 @@ module _ (c : After-take_out) where
         same = c.requires.good.2;
         in_size = c.requires.good.3;
         rise = c.requires.good.4;
-        total = c.requires.m_bound.0;
-        fits = c.requires.m_bound.2;
+        total = c.requires.room.0;
+        fits = c.requires.room.2;
         held = c.take_out.ensures;
       }
 
 pub spread-requires : goal.spread-requires
 spread-requires c =
     let X = struck_now (goal.at.spread-requires c).After-take_out in
-    record { good = (struck_good X, X.in_size, X.rise, struck_none X); these_bound = (struck_total X, struck_fits X) }
+    record { good = (struck_good X, X.in_size, X.rise, struck_none X); room = (struck_total X, struck_fits X) }
 
 -- The columns that change are those of row r, or column c alone.
 module _ (c : After-changing-n) where
@@ -82,19 +82,19 @@ module _ (c : After-take_out-2) where
         good = c.requires.good.0;
         in_size = c.requires.good.3;
         rise = c.requires.good.4;
-        total = c.requires.m_bound.0;
-        fits = c.requires.m_bound.1;
+        total = c.requires.room.0;
+        fits = c.requires.room.1;
         held = c.take_out-2.ensures;
       }
 
 pub insert-requires : goal.insert-requires
 insert-requires c =
     let X = emptied_now (goal.at.insert-requires c).After-take_out-2 in
-    record { good = (emptied_good X, X.in_size, emptied_there X); m_bound = (fill_total X, fill_fits X) }
+    record { good = (emptied_good X, X.in_size, emptied_there X); room = (fill_total X, fill_fits X) }
 
 pub returns : goal.returns
 returns c =
     record {
-      held = exchanged_held (emptied_now (goal.at.returns c).After-take_out-2) c.insert.ensures;
-      held_2 = rows_held (struck_now (goal.at.returns c).After-take_out) c.spread.ensures;
+      columns_held = exchanged_held (emptied_now (goal.at.returns c).After-take_out-2) c.insert.ensures;
+      rows_held = rows_held (struck_now (goal.at.returns c).After-take_out) c.spread.ensures;
     }
