@@ -115,16 +115,16 @@ module _ (c : After-window_end-end) where
 pub sweep-requires : goal.sweep-requires
 sweep-requires c =
     let start = (goal.at.sweep-requires c).Start in
-    let after_window_end_end = (goal.at.sweep-requires c).After-window_end-end in
+    let windowed = (goal.at.sweep-requires c).After-window_end-end in
     let L = (J start).sound in record {
       rows_good = (rows_good L, L.long.order_rows_fit, L.order.rows.below);
-      window = (omega (arith, (ending after_window_end_end).after), (ending after_window_end_end).within, placed_below (cols_placed start), length-set (unset after_window_end_end) _ true ∙ unset_long after_window_end_end);
+      window = (omega (arith, (ending windowed).after), (ending windowed).within, placed_below (cols_placed start), length-set (unset windowed) _ true ∙ unset_long windowed);
     }
 
 -- The places before the window's end have been swept.
 module _ (c : After-sweep) where
-  abbrev after_window_end_end : After-window_end-end
-  after_window_end_end = (goal.at.After-sweep c).After-window_end-end
+  abbrev windowed : After-window_end-end
+  windowed = (goal.at.After-sweep c).After-window_end-end
 
   abbrev start_of_sweep : Start
   start_of_sweep = (goal.at.After-sweep c).Start
@@ -132,8 +132,8 @@ module _ (c : After-sweep) where
   abbrev reached : ℕ → Bool
   reached = flagged c.sweep.new.marks
 
-  swept : Sweeps start_of_sweep (asked start_of_sweep).column (end after_window_end_end) reached
-  swept = c.sweep.ensures.1 (col start_of_sweep) (asked start_of_sweep).column (cols_placed start_of_sweep) (rows_sound (J start_of_sweep)) (begins after_window_end_end)
+  swept : Sweeps start_of_sweep (asked start_of_sweep).column (end windowed) reached
+  swept = c.sweep.ensures.1 (col start_of_sweep) (asked start_of_sweep).column (cols_placed start_of_sweep) (rows_sound (J start_of_sweep)) (begins windowed)
 
   -- The place of a new row is before that end, so its mark tells whether the row is met.
   told : (x : ℕ) → T (has (asked start_of_sweep).new_rows x) → T (reached (at (places start_of_sweep) x)) ↔ SweptColumn (J start_of_sweep) (col start_of_sweep (place (row start_of_sweep) (asked start_of_sweep).size x))
@@ -141,7 +141,7 @@ module _ (c : After-sweep) where
       let h = rising_below (J start_of_sweep).new_rise x u in
       let e = (rows_placed start_of_sweep).stand x h in
       let b = (place_of (J start_of_sweep).sound.order.rows x h).0 in
-      let k = swept_are (rows_good (J start_of_sweep).sound) (cols_placed start_of_sweep) (rows_sound (J start_of_sweep)) swept _ b (omega (arith, (ending after_window_end_end).new_low x u)) in
+      let k = swept_are (rows_good (J start_of_sweep).sound) (cols_placed start_of_sweep) (rows_sound (J start_of_sweep)) swept _ b (omega (arith, (ending windowed).new_low x u)) in
       (λ t. k.0 (subst (λ (i : ℕ). T (reached i)) e t), λ r. subst (λ (i : ℕ). T (reached i)) (sym e) (k.1 r))
 
 pub hits-met-requires : goal.hits-met-requires

@@ -92,9 +92,9 @@ flag-requires c =
 
 pub count_left-requires : goal.count_left-requires
 count_left-requires c =
-    let after_window_end_end = (goal.at.count_left-requires c).After-window_end-end in
-    let D = ending after_window_end_end in record {
-      window = (omega (arith, D.after), end_small after_window_end_end, omega (arith, D.within, c.requires.order.1), c.requires.placed.0);
+    let windowed = (goal.at.count_left-requires c).After-window_end-end in
+    let D = ending windowed in record {
+      window = (omega (arith, D.after), end_small windowed, omega (arith, D.within, c.requires.order.1), c.requires.placed.0);
       readable = λ t h. spiked_readable c.requires.listings.0 c.requires.column.0 c.requires.column.1 (col (goal.at.count_left-requires c).Start t) (c.requires.order.2.cols.below t (omega (arith, D.within)));
     }
 
@@ -123,14 +123,14 @@ module _ (c : After-wide-y) where
   abbrev start_of_wide_y : Start
   start_of_wide_y = (goal.at.After-wide-y c).Start
 
-  abbrev after_window_end_end : After-window_end-end
-  after_window_end_end = (goal.at.After-wide-y c).After-window_end-end
+  abbrev windowed : After-window_end-end
+  windowed = (goal.at.After-wide-y c).After-window_end-end
 
-  before_end : c.next_one-t.result < end after_window_end_end
+  before_end : c.next_one-t.result < end windowed
   before_end = omega (arith, c.next_one-t.ensures.within)
 
   col_in : c.wide-y.result < c.args.m
-  col_in = omega (arith, c.wide-y.ensures, c.requires.order.2.cols.below c.next_one-t.result (omega (arith, before_end, (ending after_window_end_end).within)))
+  col_in = omega (arith, c.wide-y.ensures, c.requires.order.2.cols.below c.next_one-t.result (omega (arith, before_end, (ending windowed).within)))
 
   -- Its rows.
   abbrev rows : List ℕ
@@ -145,7 +145,7 @@ module _ (c : After-wide-y) where
   some_left : SomeLeft c.loop-n.places rows
   some_left =
       subst (SomeLeft c.loop-n.places) rows_are
-      (peeling_some (window after_window_end_end) c.loop-n.invariant c.next_one-t.result (searched (goal.at.After-wide-y c).After-next_one-t).after before_end one_left)
+      (peeling_some (window windowed) c.loop-n.invariant c.next_one-t.result (searched (goal.at.After-wide-y c).After-next_one-t).after before_end one_left)
 
 pub offset_bounds-oc-t : goal.offset_bounds-oc-t
 offset_bounds-oc-t c = omega (arith, c.next_one-t.ensures.within, end_small (goal.at.offset_bounds-oc-t c).After-window_end-end)
@@ -165,35 +165,35 @@ module _ (c : After-column_left-x) where
   abbrev after_next_one_t : After-next_one-t
   after_next_one_t = (goal.at.After-column_left-x c).After-next_one-t
 
-  abbrev after_window_end_end_of_column_left_x : After-window_end-end
-  after_window_end_end_of_column_left_x = (goal.at.After-column_left-x c).After-window_end-end
+  abbrev windowed_left : After-window_end-end
+  windowed_left = (goal.at.After-column_left-x c).After-window_end-end
 
   abbrev after_wide_y : After-wide-y
   after_wide_y = (goal.at.After-column_left-x c).After-wide-y
 
-  abbrev start_of_column_left_x : Start
-  start_of_column_left_x = (goal.at.After-column_left-x c).Start
+  abbrev start_of_left : Start
+  start_of_left = (goal.at.After-column_left-x c).Start
 
   abbrev x : ℕ
   x = c.column_left-x.result
 
-  is_left : IsLeft c.loop-n.places (column (S start_of_column_left_x) (col start_of_column_left_x c.next_one-t.result)) x
+  is_left : IsLeft c.loop-n.places (column (S start_of_left) (col start_of_left c.next_one-t.result)) x
   is_left = subst (λ (r : List ℕ). IsLeft c.loop-n.places r x) (sym (rows_are after_wide_y)) c.column_left-x.ensures
 
   row_in : x < c.args.m
-  row_in = row_below (window after_window_end_end_of_column_left_x).columns x (col start_of_column_left_x c.next_one-t.result) is_left.there
+  row_in = row_below (window windowed_left).columns x (col start_of_left c.next_one-t.result) is_left.there
 
   row_small : x < 1000
-  row_small = omega (arith, row_in, small start_of_column_left_x)
+  row_small = omega (arith, row_in, small start_of_left)
 
   -- Once the counts are right again, one more place has been taken.
   abbrev Right : List ℕ → Type 0
-  Right = Counted (λ u. column (S start_of_column_left_x) (col start_of_column_left_x u)) (set c.loop-n.places x c.loop-n.n) c.args.p (end after_window_end_end_of_column_left_x)
+  Right = Counted (λ u. column (S start_of_left) (col start_of_left u)) (set c.loop-n.places x c.loop-n.n) c.args.p (end windowed_left)
 
-  one_more : {counts' : List ℕ} {t' : ℕ} → Right counts' → Searched counts' c.args.p t' → t' ≤ end after_window_end_end_of_column_left_x
-      → Peeling c.args.m (S start_of_column_left_x) (row start_of_column_left_x) (col start_of_column_left_x) c.args.new.now c.args.p (end after_window_end_end_of_column_left_x) (c.loop-n.n + 1) (set c.loop-n.places x c.loop-n.n) (set c.loop-n.old c.wide-y.result c.loop-n.n) counts' t'
+  one_more : {counts' : List ℕ} {t' : ℕ} → Right counts' → Searched counts' c.args.p t' → t' ≤ end windowed_left
+      → Peeling c.args.m (S start_of_left) (row start_of_left) (col start_of_left) c.args.new.now c.args.p (end windowed_left) (c.loop-n.n + 1) (set c.loop-n.places x c.loop-n.n) (set c.loop-n.old c.wide-y.result c.loop-n.n) counts' t'
   one_more =
-      peeling_more (window after_window_end_end_of_column_left_x) c.loop-n.invariant c.next_one-t.result (searched after_next_one_t).after (before_end after_wide_y) (one_left after_wide_y) x is_left.there is_left.nowhere
+      peeling_more (window windowed_left) c.loop-n.invariant c.next_one-t.result (searched after_next_one_t).after (before_end after_wide_y) (one_left after_wide_y) x is_left.there is_left.nowhere
       (omega arith) (searched after_next_one_t) c.wide-y.result c.wide-y.ensures
 
 pub part-requires : goal.part-requires
@@ -207,10 +207,10 @@ module _ (c : After-part) where
   abbrev after_column_left_x : After-column_left-x
   after_column_left_x = (goal.at.After-part c).After-column_left-x
 
-  abbrev after_window_end_end_of_part : After-window_end-end
-  after_window_end_end_of_part = (goal.at.After-part c).After-window_end-end
+  abbrev windowed_part : After-window_end-end
+  windowed_part = (goal.at.After-part c).After-window_end-end
 
-  row_left : RowLeft c.args.m (S (goal.at.After-part c).Start) c.args.rs.now c.args.rc.now c.args.oc.now c.args.p (end after_window_end_end_of_part) c.loop-n.places c.loop-n.counts c.loop-n.old c.part.result.now (x after_column_left_x)
+  row_left : RowLeft c.args.m (S (goal.at.After-part c).Start) c.args.rs.now c.args.rc.now c.args.oc.now c.args.p (end windowed_part) c.loop-n.places c.loop-n.counts c.loop-n.old c.part.result.now (x after_column_left_x)
   row_left =
       record {
         long = c.loop-n.invariant.placed.long;
@@ -218,7 +218,7 @@ module _ (c : After-part) where
         inside = row_in after_column_left_x;
         nowhere = (is_left after_column_left_x).nowhere;
         is = c.part.ensures;
-        stands = old_stands (window after_window_end_end_of_part) c.loop-n.invariant (x after_column_left_x) (is_left after_column_left_x).nowhere;
+        stands = old_stands (window windowed_part) c.loop-n.invariant (x after_column_left_x) (is_left after_column_left_x).nowhere;
       }
 
 pub strike-t-requires : goal.strike-t-requires
@@ -230,40 +230,40 @@ module _ (c : After-strike-t) where
   abbrev after_part : After-part
   after_part = (goal.at.After-strike-t c).After-part
 
-  abbrev start_of_strike_t : Start
-  start_of_strike_t = (goal.at.After-strike-t c).Start
+  abbrev start_of_strike : Start
+  start_of_strike = (goal.at.After-strike-t c).Start
 
-  abbrev after_column_left_x_of_strike_t : After-column_left-x
-  after_column_left_x_of_strike_t = (goal.at.After-strike-t c).After-column_left-x
+  abbrev left_of_strike : After-column_left-x
+  left_of_strike = (goal.at.After-strike-t c).After-column_left-x
 
-  abbrev after_window_end_end_of_strike_t : After-window_end-end
-  after_window_end_end_of_strike_t = (goal.at.After-strike-t c).After-window_end-end
+  abbrev windowed_strike : After-window_end-end
+  windowed_strike = (goal.at.After-strike-t c).After-window_end-end
 
   abbrev counts : List ℕ
   counts = c.strike-t.new.counts
 
   place_low : c.loop-n.n < max_size
-  place_low = omega (arith, end_small after_window_end_end_of_strike_t)
+  place_low = omega (arith, end_small windowed_strike)
 
-  has_new : at c.loop-n.places (x after_column_left_x_of_strike_t) ≡ 1001 → has c.args.new.now (x after_column_left_x_of_strike_t) ≡ true
-  has_new e = new_told c.args.new.now c.loop-n.places (x after_column_left_x_of_strike_t) c.loop-n.invariant.told (row_in after_column_left_x_of_strike_t) (is_left after_column_left_x_of_strike_t).nowhere true (eq-eqb _ _ e)
+  has_new : at c.loop-n.places (x left_of_strike) ≡ 1001 → has c.args.new.now (x left_of_strike) ≡ true
+  has_new e = new_told c.args.new.now c.loop-n.places (x left_of_strike) c.loop-n.invariant.told (row_in left_of_strike) (is_left left_of_strike).nowhere true (eq-eqb _ _ e)
 
-  has_not : at c.loop-n.places (x after_column_left_x_of_strike_t) ≢ 1001 → has c.args.new.now (x after_column_left_x_of_strike_t) ≡ false
-  has_not n = new_told c.args.new.now c.loop-n.places (x after_column_left_x_of_strike_t) c.loop-n.invariant.told (row_in after_column_left_x_of_strike_t) (is_left after_column_left_x_of_strike_t).nowhere false (ne_eqb _ _ n)
+  has_not : at c.loop-n.places (x left_of_strike) ≢ 1001 → has c.args.new.now (x left_of_strike) ≡ false
+  has_not n = new_told c.args.new.now c.loop-n.places (x left_of_strike) c.loop-n.invariant.told (row_in left_of_strike) (is_left left_of_strike).nowhere false (ne_eqb _ _ n)
 
-  right_struck : has c.args.new.now (x after_column_left_x_of_strike_t) ≡ false → Right after_column_left_x_of_strike_t counts
-  right_struck = left_struck c.args.or.now c.args.oc.now (given start_of_strike_t) (ending after_window_end_end_of_strike_t) (row_left after_part) place_low c.strike-t.ensures.0
+  right_struck : has c.args.new.now (x left_of_strike) ≡ false → Right left_of_strike counts
+  right_struck = left_struck c.args.or.now c.args.oc.now (given start_of_strike) (ending windowed_strike) (row_left after_part) place_low c.strike-t.ensures.0
 
-  right_lowered : has c.args.new.now (x after_column_left_x_of_strike_t) ≡ true → Right after_column_left_x_of_strike_t (set counts c.args.p (at counts c.args.p - 1))
+  right_lowered : has c.args.new.now (x left_of_strike) ≡ true → Right left_of_strike (set counts c.args.p (at counts c.args.p - 1))
   right_lowered e =
-      left_lowered c.args.or.now c.args.oc.now (given start_of_strike_t) (ending after_window_end_end_of_strike_t) (row_left after_part) place_low c.strike-t.ensures.0 e (at counts c.args.p - 1) refl
+      left_lowered c.args.or.now c.args.oc.now (given start_of_strike) (ending windowed_strike) (row_left after_part) place_low c.strike-t.ensures.0 e (at counts c.args.p - 1) refl
 
-  some_lower : has c.args.new.now (x after_column_left_x_of_strike_t) ≡ true → 0 < at counts c.args.p
-  some_lower = c_some c.args.or.now c.args.oc.now (given start_of_strike_t) (ending after_window_end_end_of_strike_t) (row_left after_part) place_low c.strike-t.ensures.0
+  some_lower : has c.args.new.now (x left_of_strike) ≡ true → 0 < at counts c.args.p
+  some_lower = c_some c.args.or.now c.args.oc.now (given start_of_strike) (ending windowed_strike) (row_left after_part) place_low c.strike-t.ensures.0
 
   searched_still : Searched counts c.args.p c.strike-t.result
   searched_still =
-      c.strike-t.ensures.2 c.args.p (hits_from c.args.or.now c.args.oc.now (given start_of_strike_t) (ending after_window_end_end_of_strike_t) (row_left after_part)) (searched (goal.at.After-strike-t c).After-next_one-t)
+      c.strike-t.ensures.2 c.args.p (hits_from c.args.or.now c.args.oc.now (given start_of_strike) (ending windowed_strike) (row_left after_part)) (searched (goal.at.After-strike-t c).After-next_one-t)
 
 pub lower-t-requires : goal.lower-t-requires
 lower-t-requires c =

@@ -42,16 +42,16 @@ module _ (c : Else-bytes-place-2) where
 
 -- That has it too, and the third is there.
 module _ (c : Else-bytes-place-3) where
-  abbrev else_bytes_place_of_bytes_place_3 : Else-bytes-place
-  else_bytes_place_of_bytes_place_3 = (goal.at.Else-bytes-place-3 c).Else-bytes-place
+  abbrev first_there : Else-bytes-place
+  first_there = (goal.at.Else-bytes-place-3 c).Else-bytes-place
 
-  c_small : at (bytes else_bytes_place_of_bytes_place_3) (p else_bytes_place_of_bytes_place_3 + 2) < 256
-  c_small = (c.type_inv.bytes (p else_bytes_place_of_bytes_place_3 + 2)).fits
+  c_small : at (bytes first_there) (p first_there + 2) < 256
+  c_small = (c.type_inv.bytes (p first_there + 2)).fits
 
-  b_more : ltb (at (bytes else_bytes_place_of_bytes_place_3) (p else_bytes_place_of_bytes_place_3 + 1)) 128 ≡ false
+  b_more : ltb (at (bytes first_there) (p first_there + 1)) 128 ≡ false
   b_more = le-ltb _ _ c.if-b-lt128.false
 
-  third : ltb (p else_bytes_place_of_bytes_place_3 + 2) (length (bytes else_bytes_place_of_bytes_place_3)) ≡ true
+  third : ltb (p first_there + 2) (length (bytes first_there)) ≡ true
   third = lt-ltb _ _ c.if-bytes-place-3.false
 
 pub returns-then-bytes-place : goal.returns-then-bytes-place

@@ -44,12 +44,12 @@ module _ (c : In-Value-scan_order) where
   abbrev in_Value_scan_columns : In-Value-scan_columns
   in_Value_scan_columns = (goal.at.In-Value-scan_order c).In-Value-scan_columns
 
-  abbrev in_Value_of_value_scan_order : In-Value
-  in_Value_of_value_scan_order = (goal.at.In-Value-scan_order c).In-Value
+  abbrev sized : In-Value
+  sized = (goal.at.In-Value-scan_order c).In-Value
 
-  order_read : Gauged length (order_at (bytes in_Value_of_value_scan_order) (m in_Value_of_value_scan_order) (order in_Value_scan_columns)) c.in-Value-scan_order.value c.in-Value-scan_order.end
+  order_read : Gauged length (order_at (bytes sized) (m sized) (order in_Value_scan_columns)) c.in-Value-scan_order.value c.in-Value-scan_order.end
   order_read =
-      gauged_got length (order_at (bytes in_Value_of_value_scan_order) (m in_Value_of_value_scan_order) (order in_Value_scan_columns)) (told_value c.scan_order.ensures c.in-Value-scan_order.is)
+      gauged_got length (order_at (bytes sized) (m sized) (order in_Value_scan_columns)) (told_value c.scan_order.ensures c.in-Value-scan_order.is)
 
 pub scan_columns-requires : goal.scan_columns-requires
 scan_columns-requires c =

@@ -76,8 +76,8 @@ store-now_fits-requires c =
 
 -- Its rows are stored, where they fit.
 module _ (c : After-store-now_fits) where
-  abbrev else_count_eq0_of_store_now_fits : Else-count-eq0
-  else_count_eq0_of_store_now_fits = (goal.at.After-store-now_fits c).Else-count-eq0
+  abbrev counted : Else-count-eq0
+  counted = (goal.at.After-store-now_fits c).Else-count-eq0
 
   abbrev after_keep : After-keep
   after_keep = (goal.at.After-store-now_fits c).After-keep
@@ -91,7 +91,7 @@ module _ (c : After-store-now_fits) where
   stored eta =
       let a = c.args in
       let h = rw (rows_are after_keep) at (c.store-now_fits.ensures a.rs.now a.rc.now a.or.now a.oc.now) in
-      record { rows = (found else_count_eq0_of_store_now_fits).0; says = (found else_count_eq0_of_store_now_fits).1; fitting = h.0; stands = h.1; kept = kept after_keep }
+      record { rows = (found counted).0; says = (found counted).1; fitting = h.0; stands = h.1; kept = kept after_keep }
 
 pub returns-then-column-size : goal.returns-then-column-size
 returns-then-column-size c eta =
