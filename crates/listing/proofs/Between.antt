@@ -4,7 +4,7 @@ use mathlib.Core.Path.{◌≡◌, sym, ap, ◌∙◌}
 use Prim.Native.Nat.{ℕ, ◌+◌, ◌-◌, ◌≤◌, ◌<◌, suc}
 use native.Mathlib.Omega.{arith}
 use lib.ListN.{length, take, drop, length-take, length-drop}
-use lib.Seq.{ext_get_or, get_or-take, get_or-drop, take-suc, take-add, drop-drop}
+use lib.Seq.{ext_get_or, length-take-le, get_or-take, get_or-drop, take-suc, take-add, drop-drop}
 use Rattle.pattern.specs.Places.{at}
 use Rattle.listing.specs.Listing.{between}
 
@@ -51,3 +51,7 @@ module _ (a b : ℕ) (l : List ℕ) (h : a ≤ b) where
       ap (λ (j : List ℕ). between a b l ++ take (c - b) j) (ap (λ (i : ℕ). drop i l) (sym e) ∙ sym (drop-drop (b - a) a l))
       ∙ sym (take-add (b - a) (c - b) (drop a l))
       ∙ ap (λ (i : ℕ). take i (drop a l)) n
+
+-- The number at a place among the first `n`.
+pub first_at : {n i : ℕ} (l : List ℕ) → n ≤ length l → i < length (take n l) → (i < n) × (at (take n l) i ≡ at l i)
+first_at {n} {i} l h b = let u : i < n = omega (arith, length-take-le n l h) in (u, get_or-take n l i 0 u)

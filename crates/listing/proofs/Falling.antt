@@ -63,6 +63,11 @@ module _ (l : List ℕ) where
       go true = omega arith
       go false = omega arith
 
+  -- What was counted up to the last number, where there is one, is all.
+  pub falls_all : (n : ℕ) {k sum : ℕ} → (n ≡ 0 → sum ≡ 0) → sum ≡ tally (fall l) k → (1 ≤ n → k ≡ n) → sum ≡ tally (fall l) n
+  falls_all zero none counted end = none refl ∙ sym (tally_none (fall l))
+  falls_all (suc n) none counted end = counted ∙ ap (tally (fall l)) (end (omega arith))
+
 -- ---- The start of a part
 
 module _ (starts entries : List ℕ) (k : ℕ) where

@@ -1,18 +1,22 @@
 -- A list rises where each number is below the next and the last is below the bound; then none stands twice. Rests on `pattern`.
+use Rattle.std.specs.List.{IsAllAdjacentAnswer}
+use mathlib.Core.Bool.{Bool, true, false}
 use mathlib.Core.List.{List}
-use mathlib.Core.Logic.{⊎_elim}
-use mathlib.Core.Path.{◌≡◌, ap, subst}
+use mathlib.Core.Path.{◌≡◌, sym, ap, subst}
 use Prim.Native.Nat.{ℕ, suc, ◌+◌, ◌-◌, ◌≤◌, ◌<◌}
 use native.Mathlib.Decide.{ℕ_discrete, dec_lt}
 use native.Mathlib.Numerals.{add-one}
 use native.Mathlib.Omega.{arith}
+use lib.Dec.{ltb}
 use lib.ListN.{length}
+use borrow.Author.Tests.{ltb-true, ltb-false}
 use Rattle.pattern.specs.Places.{at, Once}
 use Rattle.pattern.specs.Rising.{Rising}
 use Rattle.pattern.proofs.Climbing.{climbs}
 use Rattle.pattern.proofs.Once.{too_many}
 use Rattle.pattern.proofs.Rises.{rising_less}
-use Rattle.pattern.proofs.Search.{last_or}
+use Rattle.listing.specs.Says.{Says}
+use Rattle.listing.proofs.Answers.{told_yes, told_no}
 
 pub rising_last : {m : ℕ} (l : List ℕ) → ((i : ℕ) → i + 1 < length l → at l i < at l (i + 1)) → at l (length l - 1) < m → Rising m l
 rising_last l up h =
@@ -21,13 +25,12 @@ rising_last l up h =
       rises = λ i k. subst (λ (n : ℕ). at l i < at l n) (add-one i) (up i (omega arith));
     }
 
--- A turn of the check, at place `k`: the number there is not above the one before, or it is.
-pub fall : {m : ℕ} {l : List ℕ} → Rising m l → (k : ℕ) → 1 ≤ k → k < length l → at l k ≤ at l (k - 1) → ⊥
-fall {l = l} s k h b e = let z : suc (k - 1) ≡ k = omega arith in omega (arith, s.rises (k - 1) (omega arith), ap (at l) z)
-
-pub rise_more : (l : List ℕ) (k : ℕ) → 1 ≤ k → ((i : ℕ) → i + 1 < k → at l i < at l (i + 1)) → at l (k - 1) < at l k
-    → (i : ℕ) → i + 1 < k + 1 → at l i < at l (i + 1)
-rise_more l k h up e i b = ⊎_elim (λ u. up i u) (λ z. let y : i ≡ k - 1 = omega arith in omega (arith, ap (at l) y, ap (at l) z)) (last_or k (i + 1) (omega arith))
+-- An answer about neighbours, where the last number is below the bound.
+pub rising_told : {m : ℕ} {r : Bool} (l : List ℕ) → at l (length l - 1) < m → IsAllAdjacentAnswer (λ x y b. b ≡ ltb x y) l r → Says r (Rising m l)
+rising_told {r = true} l h up = told_yes (rising_last l (λ i b. ltb-true (at l i) (at l (i + 1)) (sym (up i 0 b))) h)
+rising_told {r = false} l h (k, b, e) =
+    let z : suc k ≡ k + 1 = omega arith in
+    told_no (λ s. omega (arith, s.rises k (omega arith), ap (at l) z, ltb-false (at l k) (at l (k + 1)) (sym (e 0))))
 
 -- Numbers below a bound are below a greater one.
 pub rising_within : {m n : ℕ} {l : List ℕ} → m ≤ n → Rising m l → Rising n l

@@ -80,15 +80,6 @@ module _ {m : ℕ} {counts starts : List ℕ} where
           kept = more_kept;
         }
 
-    pub laying_all : r ≡ m → Laid m counts starts next' (set starts' m sum)
-    laying_all e =
-        record {
-          next_long = Y.next_long;
-          stand = λ x h. Y.stand x (omega arith);
-          laid = rw e at more_laid;
-          kept = rw e at more_kept;
-        }
-
 -- ---- The turned listing
 
 module _ {m : ℕ} {starts entries : List ℕ} (G : Good m starts entries) where

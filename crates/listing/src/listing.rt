@@ -24,21 +24,13 @@ pub fn part<'a>(starts: &[u16], entries: &'a [u16], k: usize) -> &'a [u16]
 pub fn rising(m: usize, numbers: &[u16]) -> bool
     ensures { Says result (Rising m numbers.now) }
 {
-    let n = numbers.len();
-    if n == 0 {
+    let Some(last) = numbers.last() else {
         return true;
-    }
-    let mut k = 1;
-    while k < n {
-        if numbers[k] <= numbers[k - 1] {
-            return false;
-        }
-        k += 1;
-    }
-    wide(numbers[n - 1]) < m
+    };
+    wide(*last) < m && numbers.is_sorted_by(|a, b| *a < *b)
 }
 
-// Whether the m + 1 starts are right.
+// Whether the m + 1 starts are right. A loop without an exit looks at many of them at a time.
 pub fn starts_right(m: usize, starts: &[u16]) -> bool
     requires { m < length starts.now }
     ensures { Says result (Starts m starts.now) }
@@ -50,12 +42,10 @@ pub fn starts_right(m: usize, starts: &[u16]) -> bool
         return false;
     }
     let mut fell = false;
-    let mut k = 0;
-    while k < m {
+    for k in 0..m {
         if starts[k + 1] < starts[k] {
             fell = true;
         }
-        k += 1;
     }
     !fell
 }
@@ -66,15 +56,10 @@ fn falls(n: usize, entries: &[u16]) -> u16
     ensures { result ≡ tally (fall entries.now) n }
 {
     let mut sum: u16 = 0;
-    if n == 0 {
-        return sum;
-    }
-    let mut k = 1;
-    while k < n {
+    for k in 1..n {
         if entries[k] <= entries[k - 1] {
             sum += 1;
         }
-        k += 1;
     }
     sum
 }
@@ -103,10 +88,8 @@ fn falls_at_starts(m: usize, starts: &[u16], entries: &[u16]) -> usize
     ensures { result ≡ tally (fall_at_start starts.now entries.now) m }
 {
     let mut sum = 0;
-    let mut k = 0;
-    while k < m {
+    for k in 0..m {
         sum += falls_first(starts, entries, k);
-        k += 1;
     }
     sum
 }
@@ -116,15 +99,11 @@ fn ends_below(m: usize, starts: &[u16], entries: &[u16]) -> bool
     requires { Room m starts.now entries.now × Starts m starts.now }
     ensures { Says result (EndsBelow m starts.now entries.now) }
 {
-    let mut k = 0;
-    while k < m {
+    for k in 0..m {
         let to = wide(starts[k + 1]);
-        if wide(starts[k]) < to {
-            if m <= wide(entries[to - 1]) {
-                return false;
-            }
+        if wide(starts[k]) < to && m <= wide(entries[to - 1]) {
+            return false;
         }
-        k += 1;
     }
     true
 }

@@ -8,11 +8,7 @@ pub fn copy(numbers: &[u16], from: usize, list: &mut [u16])
     requires { from + length numbers.now ≤ length list.old }
     ensures { list.new ≡ put from numbers.now list.old }
 {
-    let mut i = 0;
-    while i < numbers.len() {
-        list[from + i] = numbers[i];
-        i += 1;
-    }
+    list[from..from + numbers.len()].copy_from_slice(numbers);
 }
 
 // The first n numbers of a list.

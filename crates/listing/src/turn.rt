@@ -19,13 +19,8 @@ fn count_column(m: usize, starts: &[u16], rows: &[u16], j: usize, counts: &mut [
     requires { (j < m) × Good m starts.now rows.now × Cursors m (λ _. 0) (λ r. row_of (parts m starts.now rows.now) r j) counts.old }
     ensures { Cursors m (λ _. 0) (λ r. row_of (parts m starts.now rows.now) r (j + 1)) counts.new }
 {
-    let column = part(starts, rows, j);
-    let mut k = 0;
-    while k < column.len() {
-        let r = wide(column[k]);
-        let n = counts[r];
-        counts[r] = n + 1;
-        k += 1;
+    for row in part(starts, rows, j) {
+        counts[wide(*row)] += 1;
     }
 }
 
@@ -34,10 +29,8 @@ fn count_rows(m: usize, starts: &[u16], rows: &[u16], counts: &mut [u16; MAX_SIZ
     requires { Good m starts.now rows.now × Cursors m (λ _. 0) (λ r. row_of (parts m starts.now rows.now) r 0) counts.old }
     ensures { Cursors m (λ _. 0) (λ r. row_of (parts m starts.now rows.now) r m) counts.new }
 {
-    let mut j = 0;
-    while j < m {
+    for j in 0..m {
         count_column(m, starts, rows, j, counts);
-        j += 1;
     }
 }
 
@@ -47,13 +40,11 @@ fn lay_starts(m: usize, next: &mut [u16; MAX_SIZE], starts: &mut [u16])
     ensures { Laid m next.old starts.old next.new starts.new }
 {
     let mut sum: u16 = 0;
-    let mut r = 0;
-    while r < m {
+    for r in 0..m {
         let n = next[r];
         starts[r] = sum;
         next[r] = sum;
-        sum = sum + n;
-        r += 1;
+        sum += n;
     }
     starts[m] = sum;
 }
@@ -73,15 +64,11 @@ fn fill_column(
         (λ r. row_of (parts m starts.now rows.now) r (j + 1)) next.new
         × Kept (at starts.now m) cols.old cols.new }
 {
-    let column = part(starts, rows, j);
-    let x = j as u16;
-    let mut k = 0;
-    while k < column.len() {
-        let r = wide(column[k]);
+    for row in part(starts, rows, j) {
+        let r = wide(*row);
         let p = next[r];
-        cols[wide(p)] = x;
+        cols[wide(p)] = j as u16;
         next[r] = p + 1;
-        k += 1;
     }
 }
 
@@ -93,10 +80,8 @@ fn fill_rows(m: usize, starts: &[u16], rows: &[u16], next: &mut [u16; MAX_SIZE],
         (λ r. row_of (parts m starts.now rows.now) r m) next.new
         × Kept (at starts.now m) cols.old cols.new }
 {
-    let mut j = 0;
-    while j < m {
+    for j in 0..m {
         fill_column(m, starts, rows, j, next, cols);
-        j += 1;
     }
 }
 

@@ -8,7 +8,7 @@ use Rattle.pattern.specs.Places.{at}
 use Rattle.listing.proofs.Answers.{told_yes, told_no}
 use Rattle.listing.proofs.Listings.{part_within}
 use Rattle.listing.proofs.listing.ends_below.Goals as goal
-use Rattle.listing.proofs.listing.ends_below.Goals.{After-wide, then-wide-to+else-m-wide, else-wide-to}
+use Rattle.listing.proofs.listing.ends_below.Goals.{After-wide, else-wide-to-via-then-wide-to+else-m-wide, else-wide-to-via-else-wide-to}
 
 pub loop-k-init : goal.loop-k-init
 loop-k-init c = below_none _
@@ -31,9 +31,9 @@ returns-then-m-wide c =
 pub loop-k-preserved : goal.loop-k-preserved
 loop-k-preserved c =
     below_more _ _ c.loop-k.invariant
-    (λ h. elim c.if-wide-to.branch [
-      | then-wide-to+else-m-wide v ↦ omega (arith, v.if-m-wide.false, read (goal.at.loop-k-preserved c).After-wide v.wide-then-wide-to.ensures)
-      | else-wide-to v ↦ absurd (omega (arith, v.if-wide-to.false, c.wide.ensures, c.wide-to.ensures))
+    (λ h. elim c.else-wide-to.branch [
+      | else-wide-to-via-then-wide-to+else-m-wide v ↦ omega (arith, v.if-m-wide.false, read (goal.at.loop-k-preserved c).After-wide v.wide-then-wide-to.ensures)
+      | else-wide-to-via-else-wide-to v ↦ absurd (omega (arith, v.if-wide-to.false, c.wide.ensures, c.wide-to.ensures))
     ])
 
 pub returns : goal.returns

@@ -5,6 +5,3 @@ use Rattle.listing.proofs.listing.ends_below.Given as goal
 
 abbrev pub invariant-loop-k : goal.invariant-loop-k
 invariant-loop-k l = (i : ℕ) → i < l.k → at l.starts i < at l.starts (i + 1) → at l.entries (at l.starts (i + 1) - 1) < l.m
-
-abbrev pub decreases-loop-k : goal.decreases-loop-k
-decreases-loop-k l = l.m - l.k

@@ -1,12 +1,9 @@
--- `falls`: the falls among the first k entries have been counted.
+-- `falls`: the falls among the first k entries have been counted; where there is no entry, there is none.
 use mathlib.Core.Path.{◌≡◌}
-use Prim.Native.Nat.{◌-◌, ◌≤◌, ◌<◌}
+use Prim.Native.Nat.{◌<◌}
 use Rattle.pattern.specs.Series.{tally}
 use Rattle.listing.specs.Falls.{fall}
 use Rattle.listing.proofs.listing.falls.Given as goal
 
 abbrev pub invariant-loop-k : goal.invariant-loop-k
-invariant-loop-k l = (1 ≤ l.k) × (l.k ≤ l.n) × (l.sum < l.k) × (l.sum ≡ tally (fall l.entries) l.k)
-
-abbrev pub decreases-loop-k : goal.decreases-loop-k
-decreases-loop-k l = l.n - l.k
+invariant-loop-k l = (l.n ≡ 0 → l.sum ≡ 0) × (l.sum < l.k) × (l.sum ≡ tally (fall l.entries) l.k)

@@ -1,8 +1,7 @@
 -- `falls_at_starts`: the parts before part k have been counted.
-use mathlib.Core.Path.{◌≡◌, sym, ap, ◌∙◌}
+use mathlib.Core.Path.{sym}
 use Prim.Native.Nat.{◌≤◌}
 use native.Mathlib.Omega.{arith}
-use Rattle.pattern.specs.Series.{tally}
 use Rattle.pattern.proofs.Tallies.{tally_none, tally_next}
 use Rattle.listing.specs.Falls.{fall_at_start}
 use Rattle.listing.proofs.Falling.{start_few}
@@ -11,12 +10,10 @@ use Rattle.listing.proofs.listing.falls_at_starts.Goals as goal
 use Rattle.listing.proofs.listing.falls_at_starts.Goals.{After-falls_first-sum}
 
 pub loop-k-init : goal.loop-k-init
-loop-k-init c =
-    (omega arith, omega arith, sym (tally_none (fall_at_start c.args.starts.now c.args.entries.now)))
+loop-k-init c = (omega arith, sym (tally_none (fall_at_start c.args.starts.now c.args.entries.now)))
 
 pub falls_first-sum-requires : goal.falls_first-sum-requires
-falls_first-sum-requires c =
-    omega (arith, c.requires.0, part_within c.requires.0 c.requires.1 c.loop-k.k (omega arith))
+falls_first-sum-requires c = omega (arith, c.requires.0, part_within c.requires.0 c.requires.1 c.loop-k.k (omega arith))
 
 -- A turn adds 1 or nothing.
 few : (c : After-falls_first-sum) → c.falls_first-sum.result ≤ 1
@@ -25,15 +22,9 @@ few c =
 
 pub loop-k-preserved : goal.loop-k-preserved
 loop-k-preserved c = (
-  omega arith,
   omega (arith, few (goal.at.loop-k-preserved c).After-falls_first-sum),
   omega (arith, c.falls_first-sum.ensures, tally_next (fall_at_start c.args.starts.now c.args.entries.now) c.loop-k.k),
 )
-
-pub returns : goal.returns
-returns c =
-    let e : c.loop-k.k ≡ c.args.m = omega arith in
-    c.loop-k.invariant.2 ∙ ap (tally (fall_at_start c.args.starts.now c.args.entries.now)) e
 
 pub overflow_add-sum : goal.overflow_add-sum
 overflow_add-sum c = omega (arith, few (goal.at.overflow_add-sum c).After-falls_first-sum)

@@ -1,12 +1,9 @@
 -- `falls_at_starts`: the parts before part k have been counted.
 use mathlib.Core.Path.{◌≡◌}
-use Prim.Native.Nat.{◌-◌, ◌≤◌}
+use Prim.Native.Nat.{◌≤◌}
 use Rattle.pattern.specs.Series.{tally}
 use Rattle.listing.specs.Falls.{fall_at_start}
 use Rattle.listing.proofs.listing.falls_at_starts.Given as goal
 
 abbrev pub invariant-loop-k : goal.invariant-loop-k
-invariant-loop-k l = (l.k ≤ l.m) × (l.sum ≤ l.k) × (l.sum ≡ tally (fall_at_start l.starts l.entries) l.k)
-
-abbrev pub decreases-loop-k : goal.decreases-loop-k
-decreases-loop-k l = l.m - l.k
+invariant-loop-k l = (l.sum ≤ l.k) × (l.sum ≡ tally (fall_at_start l.starts l.entries) l.k)

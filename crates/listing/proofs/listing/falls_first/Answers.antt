@@ -1,8 +1,7 @@
 -- `falls_first`: the four cases of the definition.
 use mathlib.Core.Path.{◌≡◌, sym, ◌∙◌}
-use Prim.Native.Nat.{ℕ, ◌<◌}
+use Prim.Native.Nat.{ℕ}
 use native.Mathlib.Omega.{arith}
-use lib.ListN.{length}
 use Rattle.pattern.specs.Places.{at}
 use Rattle.listing.specs.Falls.{fall, fall_at_start}
 use Rattle.listing.proofs.Falling.{fall_yes, fall_no, start_first, start_some, start_none}
@@ -25,9 +24,6 @@ module _ (c : Else-wide-from) where
   read : c.wide-from.result ≡ from
   read = c.wide-from.ensures
 
-  in_list : from < length c.args.entries.now
-  in_list = omega (arith, c.requires.1)
-
   is_start : fall_at_start c.args.starts.now c.args.entries.now c.args.k ≡ fall c.args.entries.now from
   is_start = start_some c.args.starts.now c.args.entries.now c.args.k (omega arith)
 
@@ -40,15 +36,3 @@ pub returns : goal.returns
 returns c =
     let else_wide_from = (goal.at.returns c).Else-wide-from in
     sym (is_start else_wide_from ∙ fall_yes c.args.entries.now (from else_wide_from) (omega arith) (rw (read else_wide_from) at c.if-entries-from.false))
-
-pub offset_bounds-entries-from : goal.offset_bounds-entries-from
-offset_bounds-entries-from c = omega (arith, in_list (goal.at.offset_bounds-entries-from c).Else-wide-from)
-
-pub bounds-entries-from : goal.bounds-entries-from
-bounds-entries-from c = omega (arith, in_list (goal.at.bounds-entries-from c).Else-wide-from)
-
-pub offset_bounds-entries-from-2 : goal.offset_bounds-entries-from-2
-offset_bounds-entries-from-2 c = omega (arith, in_list (goal.at.offset_bounds-entries-from-2 c).Else-wide-from)
-
-pub bounds-entries-from-2 : goal.bounds-entries-from-2
-bounds-entries-from-2 c = omega (arith, in_list (goal.at.bounds-entries-from-2 c).Else-wide-from)

@@ -1,5 +1,5 @@
 -- `starts_right`: whether a start before start k fell.
-use Prim.Native.Nat.{ℕ, ◌+◌, ◌-◌, ◌≤◌, ◌<◌}
+use Prim.Native.Nat.{ℕ, ◌+◌, ◌≤◌, ◌<◌}
 use Rattle.pattern.specs.Places.{at}
 use Rattle.listing.specs.Listing.{Starts}
 use Rattle.listing.specs.Says.{Told}
@@ -7,6 +7,3 @@ use Rattle.listing.proofs.listing.starts_right.Given as goal
 
 abbrev pub invariant-loop-k : goal.invariant-loop-k
 invariant-loop-k l = Told l.fell (¬ Starts l.m l.starts) ((i : ℕ) → i < l.k → at l.starts i ≤ at l.starts (i + 1))
-
-abbrev pub decreases-loop-k : goal.decreases-loop-k
-decreases-loop-k l = l.m - l.k

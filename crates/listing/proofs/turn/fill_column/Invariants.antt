@@ -1,7 +1,4 @@
 -- `fill_column`: a turn puts column j at the cursor of its row.
-use mathlib.Core.Path.{◌≡◌}
-use Prim.Native.Nat.{◌-◌, ◌≤◌}
-use lib.ListN.{length}
 use Rattle.pattern.specs.Flat.{start_of}
 use Rattle.pattern.specs.Places.{at}
 use Rattle.pattern.specs.Turned.{turned}
@@ -10,11 +7,7 @@ use Rattle.listing.specs.Listing.{parts}
 use Rattle.listing.specs.Walk.{Walked, Kept}
 use Rattle.listing.proofs.turn.fill_column.Given as goal
 
-abbrev pub invariant-loop-k : goal.invariant-loop-k
-invariant-loop-k l =
-    (l.k ≤ length l.column) × (l.x ≡ l.j)
-    × Walked l.m (start_of (turned l.m (parts l.m l.starts l.rows))) l.cols (λ r. met (parts l.m l.starts l.rows) r l.j l.k) l.next
+abbrev pub invariant-loop-row : goal.invariant-loop-row
+invariant-loop-row l =
+    Walked l.m (start_of (turned l.m (parts l.m l.starts l.rows))) l.cols (λ r. met (parts l.m l.starts l.rows) r l.j l.row-index) l.next
     × Kept (at l.starts l.m) l.initial.cols l.cols
-
-abbrev pub decreases-loop-k : goal.decreases-loop-k
-decreases-loop-k l = length l.column - l.k

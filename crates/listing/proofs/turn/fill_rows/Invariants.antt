@@ -1,5 +1,4 @@
 -- `fill_rows`: the columns before j have been put in their places.
-use Prim.Native.Nat.{◌-◌, ◌≤◌}
 use Rattle.pattern.specs.Flat.{start_of}
 use Rattle.pattern.specs.Places.{at}
 use Rattle.pattern.specs.Turned.{row_of, turned}
@@ -9,9 +8,5 @@ use Rattle.listing.proofs.turn.fill_rows.Given as goal
 
 abbrev pub invariant-loop-j : goal.invariant-loop-j
 invariant-loop-j l =
-    (l.j ≤ l.m)
-    × Walked l.m (start_of (turned l.m (parts l.m l.starts l.rows))) l.cols (λ r. row_of (parts l.m l.starts l.rows) r l.j) l.next
+    Walked l.m (start_of (turned l.m (parts l.m l.starts l.rows))) l.cols (λ r. row_of (parts l.m l.starts l.rows) r l.j) l.next
     × Kept (at l.starts l.m) l.initial.cols l.cols
-
-abbrev pub decreases-loop-j : goal.decreases-loop-j
-decreases-loop-j l = l.m - l.j

@@ -3,7 +3,7 @@ use Prim.Native.Nat.{◌+◌}
 use native.Mathlib.Omega.{arith}
 use Rattle.pattern.specs.Places.{at}
 use Rattle.pattern.proofs.Tallies.{tally_next, tally_more}
-use Rattle.listing.proofs.Turns.{laying_none, laying_more, laying_all}
+use Rattle.listing.proofs.Turns.{laying_none, laying_more}
 use Rattle.listing.proofs.turn.lay_starts.Goals as goal
 
 pub loop-r-init : goal.loop-r-init
@@ -17,6 +17,3 @@ overflow_add-sum c =
 
 pub loop-r-preserved : goal.loop-r-preserved
 loop-r-preserved c = laying_more c.requires.0 c.requires.1 c.loop-r.invariant (omega arith)
-
-pub returns : goal.returns
-returns c = laying_all c.requires.0 c.requires.1 c.loop-r.invariant (omega (arith, c.loop-r.invariant.upto))
