@@ -6,6 +6,7 @@ use Prim.Native.Nat.{ℕ, ◌≤◌, ◌<◌}
 use native.Mathlib.Omega.{arith}
 use lib.ListN.{get_or, take}
 use lib.Seq.{ext_get_or, get_or-take, length-take-le}
+use Rattle.std.specs.Prelude.{Result, Ok, Err}
 use Rattle.pattern.proofs.Rungs.{unless_one}
 use Rattle.listing.specs.Contract.{Determined, DeterminedAs}
 use Rattle.listing.specs.Limits.{max_size}
@@ -19,8 +20,6 @@ use Rattle.register.specs.Marks.{unmarked}
 use Rattle.register.specs.Order.{Placed}
 use Rattle.register.specs.Reply.{number, fault}
 use Rattle.register.specs.Start.{Started, started, StartsWith}
-use Rattle.register.specs.declared.Checked.{Checked}
-use Rattle.register.specs.declared.Checked.TheVariants.{Sound, Refused}
 use Rattle.register.specs.declared.Refusal.{Refusal}
 use Rattle.register.specs.declared.Refusal.TheVariants.{Size, ShortList, MalformedListing, ListingsDiffer, OrderUnsound, ColumnNumber, NewColumn, NoRoom, SheetCut, SheetNumber, SheetRange, SheetSurplus}
 use Rattle.register.specs.declared.marks.Marks.{Marks}
@@ -38,45 +37,45 @@ use Rattle.register.proofs.room.takes.Reads as takes
 -- ---- The reply of a number
 
 -- In the order of their numbers.
-replies : List Checked
+replies : List (Result Unit Refusal)
 replies =
-    Sound
-    ∷ Refused Size
-    ∷ Refused ShortList
-    ∷ Refused MalformedListing
-    ∷ Refused ListingsDiffer
-    ∷ Refused OrderUnsound
-    ∷ Refused ColumnNumber
-    ∷ Refused NewColumn
-    ∷ Refused NoRoom
-    ∷ Refused SheetCut
-    ∷ Refused SheetNumber
-    ∷ Refused SheetRange
-    ∷ Refused SheetSurplus
+    Ok tt
+    ∷ Err Size
+    ∷ Err ShortList
+    ∷ Err MalformedListing
+    ∷ Err ListingsDiffer
+    ∷ Err OrderUnsound
+    ∷ Err ColumnNumber
+    ∷ Err NewColumn
+    ∷ Err NoRoom
+    ∷ Err SheetCut
+    ∷ Err SheetNumber
+    ∷ Err SheetRange
+    ∷ Err SheetSurplus
     ∷ []
 
-pub reply_of : ℕ → Checked
-reply_of n = get_or replies n Sound
+pub reply_of : ℕ → Result Unit Refusal
+reply_of n = get_or replies n (Ok tt)
 
-pub reply_back : (r : Checked) → reply_of (fault r) ≡ r
+pub reply_back : (r : Result Unit Refusal) → reply_of (fault r) ≡ r
 unfolding replies reply_of
-reply_back Sound = refl
-reply_back (Refused Size) = refl
-reply_back (Refused ShortList) = refl
-reply_back (Refused MalformedListing) = refl
-reply_back (Refused ListingsDiffer) = refl
-reply_back (Refused OrderUnsound) = refl
-reply_back (Refused ColumnNumber) = refl
-reply_back (Refused NewColumn) = refl
-reply_back (Refused NoRoom) = refl
-reply_back (Refused SheetCut) = refl
-reply_back (Refused SheetNumber) = refl
-reply_back (Refused SheetRange) = refl
-reply_back (Refused SheetSurplus) = refl
+reply_back (Ok x) = refl
+reply_back (Err Size) = refl
+reply_back (Err ShortList) = refl
+reply_back (Err MalformedListing) = refl
+reply_back (Err ListingsDiffer) = refl
+reply_back (Err OrderUnsound) = refl
+reply_back (Err ColumnNumber) = refl
+reply_back (Err NewColumn) = refl
+reply_back (Err NoRoom) = refl
+reply_back (Err SheetCut) = refl
+reply_back (Err SheetNumber) = refl
+reply_back (Err SheetRange) = refl
+reply_back (Err SheetSurplus) = refl
 
 -- No two refusals have one number.
 pub refusal_one : (r r' : Refusal) → number r ≡ number r' → r ≡ r'
-refusal_one r r' e = cc (sym (reply_back (Refused r)) ∙ ap reply_of e ∙ reply_back (Refused r'))
+refusal_one r r' e = cc (sym (reply_back (Err r)) ∙ ap reply_of e ∙ reply_back (Err r'))
 
 -- ---- The public functions
 
@@ -93,14 +92,14 @@ fresh_order_determined l l' f f' = ext_get_or 0 l l' (same f.long f'.long) (λ t
 pub fault_one : (m : ℕ) (l : Lists) (n n' : ℕ) → FirstFault m l n → FirstFault m l n' → n ≡ n'
 fault_one m l = unless_one (λ _. unless_one (λ _. unless_one (λ _. unless_one (λ _. unless_one (λ _ n n'. same)))))
 
-pub check_determined : (m : ℕ) (l : Lists) (r r' : Checked) → FirstFault m l (fault r) → FirstFault m l (fault r') → r ≡ r'
+pub check_determined : (m : ℕ) (l : Lists) (r r' : Result Unit Refusal) → FirstFault m l (fault r) → FirstFault m l (fault r') → r ≡ r'
 check_determined m l r r' f f' = sym (reply_back r) ∙ ap reply_of (fault_one m l (fault r) (fault r') f f') ∙ reply_back r'
 
 -- A start has one outcome.
 pub started_one : (m : ℕ) (l : Lists) (o o' : Started) → StartsWith m l o → StartsWith m l o' → o ≡ o'
 started_one m l = unless_one (λ _. unless_one (λ _. unless_one (λ _. unless_one (λ _ o o'. same))))
 
-pub start_determined : (m : ℕ) (l : Lists) (r r' : Checked) (k k' : Lists) → StartsWith m l (started (fault r) k) → StartsWith m l (started (fault r') k')
+pub start_determined : (m : ℕ) (l : Lists) (r r' : Result Unit Refusal) (k k' : Lists) → StartsWith m l (started (fault r) k) → StartsWith m l (started (fault r') k')
     → (r ≡ r') × (k ≡ k')
 start_determined m l r r' k k' f f' =
     let o = started_one m l (started (fault r) k) (started (fault r') k') f f' in

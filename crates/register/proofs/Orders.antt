@@ -1,6 +1,7 @@
 -- Places of an order's rows, entered one by one, and what the columns' greatest places say of the order.
 -- Rests on specs/Order.antt and `pattern`.
-use mathlib.Core.List.{List}
+use Rattle.std.specs.List.{fold}
+use mathlib.Core.List.{List, [], ◌∷◌}
 use mathlib.Core.Logic.{⊎_elim}
 use mathlib.Core.Path.{◌≡◌, sym, ap, ◌∙◌}
 use Prim.Native.Nat.{ℕ, ◌+◌, ◌≤◌, ◌<◌, max}
@@ -130,3 +131,9 @@ greatest_on f l k h = ap (λ (n : ℕ). greatest f (take n l)) (add-one k) ∙ a
 -- Of rows in range, the greatest place in the list is that of the order.
 pub top_is : {m : ℕ} {row : ℕ → ℕ} {places l : List ℕ} → Placed m row places → Rising m l → greatest (at places) l ≡ top_place row m l
 top_is {m} {row} {places} {l} L R = greatest_same (at places) (place row m) l (λ x u. L.stand x (rising_below R x u))
+
+-- Taken one by one, each with the greatest so far.
+pub fold_greatest : (f : ℕ → ℕ) (l : List ℕ) (a : ℕ) → fold (λ b x. max b (f x)) a l ≡ max a (greatest f l)
+unfolding greatest
+fold_greatest f [] a = omega arith
+fold_greatest f (x ∷ l) a = fold_greatest f l (max a (f x)) ∙ omega arith

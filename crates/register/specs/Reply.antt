@@ -1,9 +1,7 @@
 -- The build paper's numbers of the replies. Rests on nothing.
-use Rattle.std.specs.Prelude.{ℕ}
+use Rattle.std.specs.Prelude.{ℕ, Result, Ok, Err}
 use Rattle.register.specs.declared.Refusal.{Refusal}
 use Rattle.register.specs.declared.Refusal.TheVariants.{Size, ShortList, MalformedListing, ListingsDiffer, OrderUnsound, ColumnNumber, NewColumn, NoRoom, SheetCut, SheetNumber, SheetRange, SheetSurplus}
-use Rattle.register.specs.declared.Checked.{Checked}
-use Rattle.register.specs.declared.Checked.TheVariants.{Sound, Refused}
 
 -- The number of a refusal in the paper's table.
 abbrev pub number : Refusal → ℕ
@@ -21,8 +19,6 @@ number SheetRange = 11
 number SheetSurplus = 12
 
 -- What the check of a register replies: the number of its first fault, and 0, which is no reply of the table, where it is sound.
-abbrev pub fault : Checked → ℕ
-fault Sound = 0
-fault (Refused r) = number r
-
--- ---- Of a replacement
+abbrev pub fault : Result Unit Refusal → ℕ
+fault (Ok x) = 0
+fault (Err r) = number r

@@ -14,7 +14,7 @@ ghost use Rattle.register.specs.Reply.{fault};
 
 use crate::order::{clear, enter, topped};
 use crate::same::same;
-use crate::{Checked, Refusal, Register};
+use crate::{Refusal, Register};
 use listing::listing::{formed, parts_rise, starts_right};
 use listing::wide::wide;
 
@@ -53,14 +53,14 @@ fn long_enough(
 }
 
 // The fault of a row listing with right starts that is not the columns turned: it is malformed, or lists other entries.
-fn unlike(m: usize, rs: &[u16], rc: &[u16]) -> Checked
+fn unlike(m: usize, rs: &[u16], rc: &[u16]) -> Result<(), Refusal>
     requires { Room m rs.now rc.now × Starts m rs.now }
     ensures { Unless (PartsRise m rs.now rc.now) 3 (λ n. n ≡ 4) (fault result) }
 {
     if !parts_rise(m, rs, rc) {
-        return Checked::Refused(Refusal::MalformedListing);
+        return Err(Refusal::MalformedListing);
     }
-    Checked::Refused(Refusal::ListingsDiffer)
+    Err(Refusal::ListingsDiffer)
 }
 
 // Checks 3 to 5: what the lists hold. The entries are gone over once for the rows' listing and the order together; where that
@@ -77,7 +77,7 @@ fn contents(
     next: &mut [u16; Register::MAX_SIZE],
     places: &mut [u16; Register::MAX_SIZE],
     tops: &mut [u16; Register::MAX_SIZE],
-) -> Checked
+) -> Result<(), Refusal>
     requires sized { Sized m × Long m (lists cs.now cr.now rs.now rc.now or.now oc.now) }
     requires scratch { (length next.old ≡ max_size) × (length places.old ≡ max_size) × (length tops.old ≡ max_size) }
     ensures contents { Contents m
@@ -86,10 +86,10 @@ fn contents(
     ensures places_known { fault result ≡ 0 → PlacesKnown m (at or.now) (at oc.now) next.new places.new tops.new }
 {
     if !formed(m, cs, cr) {
-        return Checked::Refused(Refusal::MalformedListing);
+        return Err(Refusal::MalformedListing);
     }
     if !starts_right(m, rs) {
-        return Checked::Refused(Refusal::MalformedListing);
+        return Err(Refusal::MalformedListing);
     }
     clear(places);
     let entered = enter(m, or, places);
@@ -97,12 +97,12 @@ fn contents(
         return unlike(m, rs, rc);
     }
     if !entered {
-        return Checked::Refused(Refusal::OrderUnsound);
+        return Err(Refusal::OrderUnsound);
     }
     if !topped(m, cs, oc, tops) {
-        return Checked::Refused(Refusal::OrderUnsound);
+        return Err(Refusal::OrderUnsound);
     }
-    Checked::Sound
+    Ok(())
 }
 
 // Checks 1 to 5.
@@ -117,7 +117,7 @@ pub fn check(
     next: &mut [u16; Register::MAX_SIZE],
     places: &mut [u16; Register::MAX_SIZE],
     tops: &mut [u16; Register::MAX_SIZE],
-) -> Checked
+) -> Result<(), Refusal>
     requires { (length next.old ≡ max_size) × (length places.old ≡ max_size) × (length tops.old ≡ max_size) }
     ensures first_fault { FirstFault m
         (lists cs.now cr.now rs.now rc.now or.now oc.now)
@@ -125,13 +125,13 @@ pub fn check(
     ensures places_known { fault result ≡ 0 → PlacesKnown m (at or.now) (at oc.now) next.new places.new tops.new }
 {
     if m == 0 {
-        return Checked::Refused(Refusal::Size);
+        return Err(Refusal::Size);
     }
     if Register::MAX_SIZE < m {
-        return Checked::Refused(Refusal::Size);
+        return Err(Refusal::Size);
     }
     if !long_enough(m, cs, cr, rs, rc, or, oc) {
-        return Checked::Refused(Refusal::ShortList);
+        return Err(Refusal::ShortList);
     }
     contents(m, cs, cr, rs, rc, or, oc, next, places, tops)
 }

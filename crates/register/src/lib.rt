@@ -22,10 +22,10 @@ use crate::marks::Marks;
 use listing::look::{Span, sight};
 use listing::{MAX_SIZE, MAX_TOTAL};
 
-// What a call refuses, in the order of the build paper's numbers. The last four are the sheet reader's alone.
-#[derive(Drop)]
+// What a call refuses, by the build paper's numbers. The last four are the sheet reader's alone.
+#[derive(Clone, Copy, Debug, PartialEq, Eq)]
 pub enum Refusal {
-    Size,
+    Size = 1,
     ShortList,
     MalformedListing,
     ListingsDiffer,
@@ -39,32 +39,12 @@ pub enum Refusal {
     SheetSurplus,
 }
 
-// What the check of a register replies.
-#[derive(Drop)]
-pub enum Checked {
-    Sound,
-    Refused(Refusal),
-}
-
 impl Refusal {
     // The refusal's number in the build paper.
     pub fn number(self) -> usize
         ensures { result ≡ number self }
     {
-        match self {
-            Refusal::Size => 1,
-            Refusal::ShortList => 2,
-            Refusal::MalformedListing => 3,
-            Refusal::ListingsDiffer => 4,
-            Refusal::OrderUnsound => 5,
-            Refusal::ColumnNumber => 6,
-            Refusal::NewColumn => 7,
-            Refusal::NoRoom => 8,
-            Refusal::SheetCut => 9,
-            Refusal::SheetNumber => 10,
-            Refusal::SheetRange => 11,
-            Refusal::SheetSurplus => 12,
-        }
+        self as usize
     }
 }
 
@@ -91,10 +71,8 @@ impl Register {
         ensures { Fresh result }
     {
         let mut order = [0u16; Register::MAX_SIZE];
-        let mut t = 0;
-        while t < Register::MAX_SIZE {
-            order[t] = t as u16;
-            t += 1;
+        for (t, number) in order.iter_mut().enumerate() {
+            *number = t as u16;
         }
         order
     }
@@ -108,7 +86,7 @@ impl Register {
         row_cols: &[u16],
         order_rows: &[u16],
         order_cols: &[u16],
-    ) -> Checked
+    ) -> Result<(), Refusal>
         ensures { FirstFault self.size
             (lists col_starts.now col_rows.now row_starts.now row_cols.now
             order_rows.now order_cols.now)
@@ -141,7 +119,7 @@ impl Register {
         row_cols: &mut [u16],
         order_rows: &mut [u16],
         order_cols: &mut [u16],
-    ) -> Checked
+    ) -> Result<(), Refusal>
         ensures { StartsWith self.size
             (lists col_starts.now col_rows.now row_starts.old row_cols.old
             order_rows.old order_cols.old)

@@ -20,9 +20,8 @@ pub fn enter(m: usize, numbers: &[u16], places: &mut [u16; Register::MAX_SIZE]) 
     requires none_placed { (length places.old ≡ max_size) × ((x : ℕ) → x < max_size → at places.old x ≡ max_size) }
     ensures { Told result (Placed m (at numbers.now) places.new) (¬ Once (at numbers.now) m m) }
 {
-    let mut t = 0;
-    while t < m {
-        let x = wide(numbers[t]);
+    for (t, number) in numbers[..m].iter().enumerate() {
+        let x = wide(*number);
         if m <= x {
             return false;
         }
@@ -30,7 +29,6 @@ pub fn enter(m: usize, numbers: &[u16], places: &mut [u16; Register::MAX_SIZE]) 
             return false;
         }
         places[x] = t as u16;
-        t += 1;
     }
     true
 }
@@ -40,11 +38,7 @@ pub fn clear(places: &mut [u16; Register::MAX_SIZE])
     requires { length places.old ≡ max_size }
     ensures { (length places.new ≡ max_size) × ((x : ℕ) → x < max_size → at places.new x ≡ max_size) }
 {
-    let mut x = 0;
-    while x < Register::MAX_SIZE {
-        places[x] = NOWHERE;
-        x += 1;
-    }
+    places.fill(NOWHERE);
 }
 
 // The greatest place of a row of each column.
@@ -58,10 +52,8 @@ fn lay_tops(
     requires { Good m cs.now cr.now × ((x : ℕ) → x < m → at places.now x < m) × (length tops.old ≡ max_size) }
     ensures { Tops m places.now (parts m cs.now cr.now) tops.new }
 {
-    let mut c = 0;
-    while c < m {
+    for c in 0..m {
         tops[c] = top_place(places, part(cs, cr, c)) as u16;
-        c += 1;
     }
 }
 
@@ -71,9 +63,8 @@ pub fn topped(m: usize, cs: &[u16], cols: &[u16], tops: &[u16; Register::MAX_SIZ
     requires { (m ≤ max_size) × (m < length cs.now) × (m ≤ length cols.now) }
     ensures { Says result ((t : ℕ) → t < m → AtTop m cs.now tops.now (at cols.now t) t) }
 {
-    let mut t = 0;
-    while t < m {
-        let c = wide(cols[t]);
+    for (t, column) in cols[..m].iter().enumerate() {
+        let c = wide(*column);
         if m <= c {
             return false;
         }
@@ -83,7 +74,6 @@ pub fn topped(m: usize, cs: &[u16], cols: &[u16], tops: &[u16; Register::MAX_SIZ
         if wide(tops[c]) != t {
             return false;
         }
-        t += 1;
     }
     true
 }

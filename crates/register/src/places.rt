@@ -16,10 +16,8 @@ pub fn place_all(m: usize, numbers: &[u16], places: &mut [u16; Register::MAX_SIZ
     requires { (m ≤ max_size) × (m ≤ length numbers.now) × Once (at numbers.now) m m × (length places.old ≡ max_size) }
     ensures { Placed m (at numbers.now) places.new }
 {
-    let mut t = 0;
-    while t < m {
-        places[wide(numbers[t])] = t as u16;
-        t += 1;
+    for (t, number) in numbers[..m].iter().enumerate() {
+        places[wide(*number)] = t as u16;
     }
 }
 
@@ -28,14 +26,8 @@ pub fn top_place(places: &[u16; Register::MAX_SIZE], rows: &[u16]) -> usize
     requires { (k : ℕ) → k < length rows.now → at rows.now k < max_size }
     ensures { result ≡ greatest (at places.now) rows.now }
 {
-    let mut top = 0;
-    let mut k = 0;
-    while k < rows.len() {
-        let p = wide(places[wide(rows[k])]);
-        if top < p {
-            top = p;
-        }
-        k += 1;
-    }
-    top
+    rows.iter()
+        .map(|row| wide(places[wide(*row)]))
+        .max()
+        .unwrap_or(0)
 }

@@ -22,11 +22,7 @@ fn set_out(m: usize, starts: &[u16], next: &mut [u16; Register::MAX_SIZE])
     requires { (m ≤ max_size) × (m < length starts.now) × (length next.old ≡ max_size) }
     ensures { (length next.new ≡ max_size) × ((r : ℕ) → r < m → at next.new r ≡ at starts.now r) }
 {
-    let mut r = 0;
-    while r < m {
-        next[r] = starts[r];
-        r += 1;
-    }
+    next[..m].copy_from_slice(&starts[..m]);
 }
 
 // Reads column j, which has these rows. Each row's cursor goes past j, which must stand there. No end of a row is asked for: each
@@ -47,9 +43,8 @@ fn meet(
         (¬ AllNext cols.now j rows.now next.old) }
 {
     let mut top: u16 = 0;
-    let mut k = 0;
-    while k < rows.len() {
-        let r = wide(rows[k]);
+    for row in rows {
+        let r = wide(*row);
         let p = wide(next[r]);
         if cols.len() <= p {
             return false;
@@ -62,7 +57,6 @@ fn meet(
         if top < place {
             top = place;
         }
-        k += 1;
     }
     tops[j] = top;
     true
@@ -73,15 +67,7 @@ fn all_met(m: usize, starts: &[u16], next: &[u16; Register::MAX_SIZE]) -> bool
     requires { (m ≤ max_size) × (m < length starts.now) }
     ensures { Says result ((r : ℕ) → r < m → at next.now r ≡ at starts.now (r + 1)) }
 {
-    let mut short = false;
-    let mut r = 0;
-    while r < m {
-        if next[r] != starts[r + 1] {
-            short = true;
-        }
-        r += 1;
-    }
-    !short
+    next[..m] == starts[1..=m]
 }
 
 // Whether the row listing is the columns turned; and the columns' greatest places. The list `next` is lent for the cursors.
@@ -103,12 +89,10 @@ pub fn same(
         (¬ RowsTurned m (parts m cs.now cr.now) rs.now rc.now) }
 {
     set_out(m, rs, next);
-    let mut j = 0;
-    while j < m {
+    for j in 0..m {
         if !meet(part(cs, cr, j), rc, j, places, next, tops) {
             return false;
         }
-        j += 1;
     }
     all_met(m, rs, next)
 }

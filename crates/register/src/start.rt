@@ -9,7 +9,7 @@ ghost use Rattle.register.specs.Start.{started, own_places, StartFault, StartsWi
 
 use crate::order::sound;
 use crate::room::takes;
-use crate::{Checked, Refusal, Register};
+use crate::{Refusal, Register};
 use listing::listing::formed;
 use listing::turn::turn;
 use listing::wide::wide;
@@ -23,31 +23,31 @@ fn start_fault(
     rc: &[u16],
     or: &[u16],
     oc: &[u16],
-) -> Checked
+) -> Result<(), Refusal>
     ensures { StartFault m
         (lists cs.now cr.now rs.now rc.now or.now oc.now)
         (fault result) }
 {
     if m == 0 {
-        return Checked::Refused(Refusal::Size);
+        return Err(Refusal::Size);
     }
     if Register::MAX_SIZE < m {
-        return Checked::Refused(Refusal::Size);
+        return Err(Refusal::Size);
     }
     if cs.len() <= m {
-        return Checked::Refused(Refusal::ShortList);
+        return Err(Refusal::ShortList);
     }
     if !takes(m, wide(cs[m]), cs, cr, rs, rc, or, oc) {
-        return Checked::Refused(Refusal::ShortList);
+        return Err(Refusal::ShortList);
     }
     if !formed(m, cs, cr) {
-        return Checked::Refused(Refusal::MalformedListing);
+        return Err(Refusal::MalformedListing);
     }
     let order = Register::fresh_order();
     if !sound(m, cs, cr, &order, &order) {
-        return Checked::Refused(Refusal::OrderUnsound);
+        return Err(Refusal::OrderUnsound);
     }
-    Checked::Sound
+    Ok(())
 }
 
 // Each of the first m places gets its own number.
@@ -55,10 +55,8 @@ fn lay_own(m: usize, list: &mut [u16])
     requires { (m ≤ max_size) × (m ≤ length list.old) }
     ensures { list.new ≡ over (own_places m) list.old }
 {
-    let mut t = 0;
-    while t < m {
-        list[t] = t as u16;
-        t += 1;
+    for (t, number) in list[..m].iter_mut().enumerate() {
+        *number = t as u16;
     }
 }
 
@@ -71,17 +69,15 @@ pub fn start(
     rc: &mut [u16],
     or: &mut [u16],
     oc: &mut [u16],
-) -> Checked
+) -> Result<(), Refusal>
     ensures { StartsWith m
         (lists cs.now cr.now rs.old rc.old or.old oc.old)
         (started (fault result)
         (lists cs.now cr.now rs.new rc.new or.new oc.new)) }
 {
-    let checked = start_fault(m, cs, cr, rs, rc, or, oc);
-    if let Checked::Sound = checked {
-        turn(m, cs, cr, rs, rc);
-        lay_own(m, or);
-        lay_own(m, oc);
-    }
-    checked
+    start_fault(m, cs, cr, rs, rc, or, oc)?;
+    turn(m, cs, cr, rs, rc);
+    lay_own(m, or);
+    lay_own(m, oc);
+    Ok(())
 }

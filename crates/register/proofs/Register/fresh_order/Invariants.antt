@@ -1,12 +1,8 @@
--- `fresh_order`: the places below t hold their own numbers.
+-- `fresh_order`: the places before t hold their own numbers.
 use mathlib.Core.Path.{◌≡◌}
-use Prim.Native.Nat.{ℕ, ◌-◌, ◌≤◌, ◌<◌}
-use lib.ListN.{length}
+use Prim.Native.Nat.{ℕ, ◌<◌}
 use Rattle.pattern.specs.Places.{at}
 use Rattle.register.proofs.Register.fresh_order.Given as goal
 
 abbrev pub invariant-loop-t : goal.invariant-loop-t
-invariant-loop-t l = (l.t ≤ 1000) × (length l.order ≡ 1000) × ((x : ℕ) → x < l.t → at l.order x ≡ x)
-
-abbrev pub decreases-loop-t : goal.decreases-loop-t
-decreases-loop-t l = 1000 - l.t
+invariant-loop-t l = (x : ℕ) → x < l.t → at l.number-items x ≡ x

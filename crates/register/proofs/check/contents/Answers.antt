@@ -66,18 +66,6 @@ some_fault (holds p e) z = omega arith
 turned : (c : Else-not-same) → Turned (goal.at.Else-not-same c).After-enter-entered
 turned c = (shown c.same.ensures c.if-not-same.false).0
 
-pub returns-then-not-formed : goal.returns-then-not-formed
-returns-then-not-formed c = record {
-  contents = fails (λ p. refuted c.formed.ensures c.if-not-formed.true p.columns_formed) refl;
-  places_known = λ e. absurd (omega (arith, e));
-}
-
-pub returns-then-not-starts_right : goal.returns-then-not-starts_right
-returns-then-not-starts_right c = record {
-  contents = fails (λ p. refuted c.starts_right.ensures c.if-not-starts_right.true p.rows_formed.starts_right) refl;
-  places_known = λ e. absurd (omega (arith, e));
-}
-
 pub returns-then-not-same : goal.returns-then-not-same
 returns-then-not-same c =
     record {
@@ -126,22 +114,7 @@ returns c =
       };
     }
 
-pub clear-requires : goal.clear-requires
-clear-requires c = c.requires.scratch.1
-
-pub enter-entered-requires : goal.enter-entered-requires
-enter-entered-requires c = record {
-  in_range = (c.requires.sized.0.1, c.requires.sized.1.order_rows_fit);
-  none_placed = c.clear.ensures;
-}
-
 pub same-requires : goal.same-requires
 same-requires c =
     let after_enter_entered = (goal.at.same-requires c).After-enter-entered in
     (cols_good after_enter_entered, c.requires.sized.1.rows_fit, row_starts after_enter_entered, c.requires.scratch.0, c.requires.scratch.2)
-
-pub unlike-requires : goal.unlike-requires
-unlike-requires c = (c.requires.sized.1.rows_fit, row_starts (goal.at.unlike-requires c).After-enter-entered)
-
-pub topped-requires : goal.topped-requires
-topped-requires c = (c.requires.sized.0.1, c.requires.sized.1.columns_fit.starts_long, c.requires.sized.1.order_cols_fit)

@@ -1,26 +1,34 @@
 -- `enter`: the places of the numbers before place t have been entered.
-use mathlib.Core.Path.{◌≡◌}
+use mathlib.Core.Path.{◌≡◌, ◌∙◌}
+use Prim.Native.Nat.{◌<◌}
 use native.Mathlib.Omega.{arith}
+use lib.Seq.{length-take-le}
 use Rattle.pattern.specs.Places.{at}
 use Rattle.listing.proofs.Answers.{told_yes, told_no}
-use Rattle.register.proofs.Orders.{entered_none, entered_twice, entered_more, entered_all}
+use Rattle.listing.proofs.Between.{first_at}
+use Rattle.register.proofs.Orders.{entered_twice, entered_more, entered_all}
 use Rattle.register.proofs.order.enter.Goals as goal
+use Rattle.register.proofs.order.enter.Goals.{After-wide-x}
 
-pub loop-t-init : goal.loop-t-init
-loop-t-init c = (omega arith, entered_none _ c.requires.none_placed.0 (λ x h. omega (arith, c.requires.none_placed.1 x h)))
+-- The number at place t.
+module _ (c : After-wide-x) where
+  in_range : c.loop-t.t < c.args.m
+  in_range = (first_at c.args.numbers.now c.requires.in_range.1 (omega arith)).0
 
-pub returns-then-m-x : goal.returns-then-m-x
-returns-then-m-x c = told_no (λ o. omega (arith, o.below c.loop-t.t (omega arith)))
+  is_number : c.wide-x.result ≡ at c.args.numbers.now c.loop-t.t
+  is_number = c.wide-x.ensures ∙ (first_at c.args.numbers.now c.requires.in_range.1 (omega arith)).1
 
 pub returns-then-places-x-lt-NOWHERE : goal.returns-then-places-x-lt-NOWHERE
 returns-then-places-x-lt-NOWHERE c =
-    told_no (entered_twice (at c.args.numbers.now) (omega arith) (omega arith) c.loop-t.invariant.1 c.wide-x.result c.wide-x.ensures (omega arith) c.if-places-x-lt-NOWHERE.true)
+    let s = (goal.at.returns-then-places-x-lt-NOWHERE c).After-wide-x in
+    told_no (entered_twice (at c.args.numbers.now) (omega arith) (in_range s) c.loop-t.invariant c.wide-x.result (is_number s) (omega arith) c.if-places-x-lt-NOWHERE.true)
 
 pub loop-t-preserved : goal.loop-t-preserved
 loop-t-preserved c =
-    (omega arith, entered_more (at c.args.numbers.now) (omega arith) (omega arith) c.loop-t.invariant.1 c.wide-x.result c.wide-x.ensures (omega arith) c.if-places-x-lt-NOWHERE.false)
+    let s = (goal.at.loop-t-preserved c).After-wide-x in
+    entered_more (at c.args.numbers.now) (omega arith) (in_range s) c.loop-t.invariant c.wide-x.result (is_number s) (omega arith) c.if-places-x-lt-NOWHERE.false
 
 pub returns : goal.returns
 returns c =
-    let e : c.loop-t.t ≡ c.args.m = omega arith in
-    told_yes (entered_all (at c.args.numbers.now) (rw e at c.loop-t.invariant.1))
+    let e : c.loop-t.t ≡ c.args.m = omega (arith, length-take-le c.args.m c.args.numbers.now c.requires.in_range.1) in
+    told_yes (entered_all (at c.args.numbers.now) (rw e at c.loop-t.invariant))

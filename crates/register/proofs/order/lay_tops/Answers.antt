@@ -3,7 +3,6 @@ use mathlib.Core.Path.{sym, ap, ◌∙◌, subst}
 use Prim.Native.Nat.{◌≤◌}
 use native.Mathlib.Omega.{arith}
 use lib.ListN.{length-set}
-use borrow.Author.Count.{below_none}
 use Rattle.pattern.specs.Pattern.{column}
 use Rattle.pattern.specs.Places.{at}
 use Rattle.pattern.specs.Rising.{Rising}
@@ -15,9 +14,6 @@ use Rattle.listing.proofs.Listings.{good_within, good_column}
 use Rattle.listing.proofs.Stores.{stored_more}
 use Rattle.register.proofs.order.lay_tops.Goals as goal
 use Rattle.register.proofs.order.lay_tops.Goals.{After-part}
-
-pub loop-c-init : goal.loop-c-init
-loop-c-init c = (omega arith, c.requires.2, below_none _)
 
 pub part-requires : goal.part-requires
 part-requires c =
@@ -39,15 +35,11 @@ loop-c-preserved c =
     let l = c.loop-c in
     let places = c.args.places.now in
     let P = parts c.args.m c.args.cs.now c.args.cr.now in (
-      omega arith,
-      simp length-set l.invariant.1,
+      simp length-set l.invariant.0,
       stored_more (λ y. greatest (at places) (column P y)) l.tops l.c _ (omega (arith, c.requires.0.small))
           (c.top_place.ensures ∙ ap (greatest (at places)) (good_column c.requires.0 l.c (omega arith) c.part.ensures))
-          l.invariant.2,
+          l.invariant.1,
     )
-
-pub returns : goal.returns
-returns c = λ y h. c.loop-c.invariant.2 y (omega arith)
 
 pub top_place-requires : goal.top_place-requires
 top_place-requires c = λ k h. omega (arith, (rise (goal.at.top_place-requires c).After-part).below k h, c.requires.0.small)

@@ -1,6 +1,5 @@
 -- `lay_tops`: the greatest places of the columns before column c have been laid.
 use mathlib.Core.Path.{◌≡◌}
-use Prim.Native.Nat.{◌-◌, ◌≤◌}
 use lib.ListN.{length}
 use Rattle.listing.specs.Limits.{max_size}
 use Rattle.listing.specs.Listing.{parts}
@@ -8,7 +7,4 @@ use Rattle.register.specs.Order.{Tops}
 use Rattle.register.proofs.order.lay_tops.Given as goal
 
 abbrev pub invariant-loop-c : goal.invariant-loop-c
-invariant-loop-c l = (l.c ≤ l.m) × (length l.tops ≡ max_size) × Tops l.c l.places (parts l.m l.cs l.cr) l.tops
-
-abbrev pub decreases-loop-c : goal.decreases-loop-c
-decreases-loop-c l = l.m - l.c
+invariant-loop-c l = (length l.tops ≡ max_size) × Tops l.c l.places (parts l.m l.cs l.cr) l.tops

@@ -2,16 +2,13 @@
 use mathlib.Core.Path.{refl}
 use native.Mathlib.Omega.{arith}
 use lib.ListN.{get_or-replicate}
-use Rattle.listing.proofs.Answers.{told_no, refuted, shown, says_as}
+use Rattle.listing.proofs.Answers.{shown, says_as}
 use Rattle.register.proofs.Orders.{placed_below}
 use Rattle.register.proofs.Tops.{tops_sound, sound_tops}
 use Rattle.register.proofs.order.sound.Goals as goal
 
 pub enter-requires : goal.enter-requires
 enter-requires c = record { in_range = omega arith; none_placed = (refl, λ x h. get_or-replicate 1000 x 1000 0 h) }
-
-pub returns-then-not-enter : goal.returns-then-not-enter
-returns-then-not-enter c = told_no (λ p. refuted c.enter.ensures c.if-not-enter.true p.rows)
 
 pub lay_tops-requires : goal.lay_tops-requires
 lay_tops-requires c =

@@ -1,44 +1,40 @@
 -- `place_all`: the numbers before place t have their places.
-use mathlib.Core.Logic.{⊎_elim}
-use mathlib.Core.Path.{sym, ap, ◌∙◌}
-use Prim.Native.Nat.{ℕ, ◌<◌}
+use mathlib.Core.Path.{◌≡◌, sym, ap, ◌∙◌}
+use Prim.Native.Nat.{◌<◌}
 use native.Mathlib.Omega.{arith}
 use lib.ListN.{set, length-set}
-use lib.Seq.{get_or-set_same, get_or-set_other}
+use lib.Seq.{length-take-le, get_or-set_same, get_or-set_other}
+use borrow.Author.Count.{below_more}
 use Rattle.pattern.specs.Places.{at}
-use Rattle.pattern.proofs.Search.{last_or}
 use Rattle.listing.specs.Limits.{max_size}
+use Rattle.listing.proofs.Between.{first_at}
 use Rattle.register.proofs.Orders.{there_placed}
 use Rattle.register.proofs.places.place_all.Goals as goal
 use Rattle.register.proofs.places.place_all.Goals.{After-wide}
 
--- The next number.
+-- The number at place t.
 module _ (c : After-wide) where
-  number_in : c.wide.result < max_size
-  number_in = omega (arith, c.wide.ensures, c.requires.2.below c.loop-t.t (omega arith), c.requires.0)
+  in_range : c.loop-t.t < c.args.m
+  in_range = (first_at c.args.numbers.now c.requires.1 (omega arith)).0
 
-pub loop-t-init : goal.loop-t-init
-loop-t-init c = (omega arith, c.requires.3, λ s h. absurd (omega arith))
+  is_number : c.wide.result ≡ at c.args.numbers.now c.loop-t.t
+  is_number = c.wide.ensures ∙ (first_at c.args.numbers.now c.requires.1 (omega arith)).1
+
+  number_in : c.wide.result < max_size
+  number_in = omega (arith, is_number, c.requires.2.below c.loop-t.t in_range, c.requires.0)
 
 pub loop-t-preserved : goal.loop-t-preserved
 loop-t-preserved c =
+    let s = (goal.at.loop-t-preserved c).After-wide in
     let l = c.loop-t in
-    let f = at c.args.numbers.now in
-    let x = c.wide.result in (
-      omega arith,
-      length-set l.places x l.t ∙ l.invariant.1,
-      λ s b. ⊎_elim
-          (λ h. get_or-set_other l.places x (f s) l.t 0 (λ z. omega (arith, c.requires.2.once s l.t (omega arith) (omega arith) (z ∙ c.wide.ensures))) ∙ l.invariant.2 s h)
-          (λ z. ap (λ (i : ℕ). at (set l.places x l.t) (f i)) z ∙ ap (at (set l.places x l.t)) (sym c.wide.ensures) ∙ get_or-set_same l.places x l.t 0 (omega (arith, l.invariant.1, number_in (goal.at.loop-t-preserved c).After-wide)) ∙ sym z)
-          (last_or l.t s (omega arith)),
+    let f = at c.args.numbers.now in (
+      length-set l.places c.wide.result l.t ∙ l.invariant.0,
+      below_more _ _
+          (λ i h. get_or-set_other l.places c.wide.result (f i) l.t 0 (λ z. omega (arith, c.requires.2.once i l.t (omega (arith, in_range s)) (in_range s) (z ∙ is_number s))) ∙ l.invariant.1 i h)
+          (ap (at (set l.places c.wide.result l.t)) (sym (is_number s)) ∙ get_or-set_same l.places c.wide.result l.t 0 (omega (arith, l.invariant.0, number_in s))),
     )
 
 pub returns : goal.returns
 returns c =
-    there_placed (at c.args.numbers.now) c.loop-t.invariant.1 c.requires.2 (λ t h. c.loop-t.invariant.2 t (omega arith))
-
-pub offset_bounds-places-wide : goal.offset_bounds-places-wide
-offset_bounds-places-wide c = omega (arith, number_in (goal.at.offset_bounds-places-wide c).After-wide)
-
-pub bounds-places-wide : goal.bounds-places-wide
-bounds-places-wide c = number_in (goal.at.bounds-places-wide c).After-wide
+    let n = length-take-le c.args.m c.args.numbers.now c.requires.1 in
+    there_placed (at c.args.numbers.now) c.loop-t.invariant.0 c.requires.2 (λ t h. c.loop-t.invariant.1 t (omega (arith, n)))

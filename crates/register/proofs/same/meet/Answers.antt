@@ -1,23 +1,22 @@
--- `meet`: the rows before row k have been read.
+-- `meet`: the rows before the next one have been read.
 use mathlib.Core.List.{List}
-use mathlib.Core.Path.{◌≡◌, refl, sym, ap, ◌∙◌, subst}
+use mathlib.Core.Path.{◌≡◌, refl, sym, ap, ◌∙◌}
 use Prim.Native.Nat.{ℕ, ◌+◌, ◌≤◌, ◌<◌, max}
 use native.Mathlib.Omega.{arith}
 use lib.ListN.{length, take, set}
-use lib.Seq.{take_all}
 use Rattle.pattern.specs.Places.{at}
 use Rattle.pattern.specs.Series.{greatest}
 use Rattle.listing.specs.Limits.{max_size, max_total}
 use Rattle.listing.specs.Walk.{AllNext, Past}
-use Rattle.listing.proofs.Answers.{told_yes, told_no}
+use Rattle.listing.proofs.Answers.{told_no}
 use Rattle.register.proofs.Orders.{greatest_on}
 use Rattle.register.proofs.Passing.{past_none, past_more, cursor_most, has_next}
 use Rattle.register.proofs.same.meet.Goals as goal
 use Rattle.register.proofs.same.meet.Goals.{After-wide, After-wide-r, then-top-place, else-top-place}
 
-pub loop-k-init : goal.loop-k-init
+pub loop-row-init : goal.loop-row-init
 unfolding greatest
-loop-k-init c = (omega arith, past_none c.args.rows.now c.requires.in_range.2, refl)
+loop-row-init c = (past_none c.args.rows.now c.requires.in_range.2, refl)
 
 -- A turn, at row r.
 module _ (c : After-wide-r) where
@@ -28,29 +27,29 @@ module _ (c : After-wide-r) where
   r = c.wide-r.result
 
   abbrev cursor : ℕ
-  cursor = at c.loop-k.next r
+  cursor = at c.loop-row.next r
 
   -- The row is in range, and its cursor is not great.
   row_in : r < max_size
-  row_in = omega (arith, c.wide-r.ensures, c.requires.in_range.1.below c.loop-k.k (omega arith))
+  row_in = omega (arith, c.wide-r.ensures, c.requires.in_range.1.below c.loop-row.row-index (omega arith))
 
   cursor_in : cursor ≤ max_total + max_size
-  cursor_in = cursor_most c.requires.in_range.1 (omega arith) c.wide-r.ensures c.loop-k.invariant.1 c.requires.cursors_low
+  cursor_in = cursor_most c.requires.in_range.1 (omega arith) c.wide-r.ensures c.loop-row.invariant.0 c.requires.cursors_low
 
   -- Where all rows have column j next, this one has; and where it has, the rows up to it have been read.
   is_next : AllNext cols c.args.j c.args.rows.now c.args.next.now → (cursor < length cols) × (at cols cursor ≡ c.args.j)
-  is_next = has_next c.requires.in_range.1 (omega arith) c.wide-r.ensures c.loop-k.invariant.1
+  is_next = has_next c.requires.in_range.1 (omega arith) c.wide-r.ensures c.loop-row.invariant.0
 
   goes_on : cursor < length cols → at cols cursor ≡ c.args.j → (v : ℕ) → v ≡ cursor + 1
-      → Past cols c.args.j (take (c.loop-k.k + 1) c.args.rows.now) c.args.next.now (set c.loop-k.next r v)
-  goes_on = past_more c.requires.in_range.1 (omega arith) c.wide-r.ensures c.loop-k.invariant.1 row_in
+      → Past cols c.args.j (take (c.loop-row.row-index + 1) c.args.rows.now) c.args.next.now (set c.loop-row.next r v)
+  goes_on = past_more c.requires.in_range.1 (omega arith) c.wide-r.ensures c.loop-row.invariant.0 row_in
 
-  higher : greatest (at c.args.places.now) (take (c.loop-k.k + 1) c.args.rows.now) ≡ max c.loop-k.top (at c.args.places.now r)
+  higher : greatest (at c.args.places.now) (take (c.loop-row.row-index + 1) c.args.rows.now) ≡ max c.loop-row.top (at c.args.places.now r)
   higher =
       omega (
         arith,
-        c.loop-k.invariant.2,
-        greatest_on (at c.args.places.now) c.args.rows.now c.loop-k.k (omega arith),
+        c.loop-row.invariant.1,
+        greatest_on (at c.args.places.now) c.args.rows.now c.loop-row.row-index (omega arith),
         ap (at c.args.places.now) c.wide-r.ensures,
       )
 
@@ -63,11 +62,10 @@ returns-then-cols-p c = told_no (λ all. omega (arith, c.wide-p.ensures, (is_nex
 pub returns-then-wide-j : goal.returns-then-wide-j
 returns-then-wide-j c = told_no (λ all. c.if-wide-j.true (read (goal.at.returns-then-wide-j c).After-wide ∙ (is_next (goal.at.returns-then-wide-j c).After-wide-r all).1))
 
-pub loop-k-preserved : goal.loop-k-preserved
-loop-k-preserved c =
-    let after_wide_r = (goal.at.loop-k-preserved c).After-wide-r in (
-      omega arith,
-      goes_on after_wide_r (omega (arith, c.wide-p.ensures)) (sym (read (goal.at.loop-k-preserved c).After-wide) ∙ c.if-wide-j.false) _ (omega (arith, c.wide-p.ensures)),
+pub loop-row-preserved : goal.loop-row-preserved
+loop-row-preserved c =
+    let after_wide_r = (goal.at.loop-row-preserved c).After-wide-r in (
+      goes_on after_wide_r (omega (arith, c.wide-p.ensures)) (sym (read (goal.at.loop-row-preserved c).After-wide) ∙ c.if-wide-j.false) _ (omega (arith, c.wide-p.ensures)),
       let h = higher after_wide_r in
           elim c.if-top-place.branch [
             | then-top-place v ↦ omega (arith, v.top-is, v.if-top-place.true, h)
@@ -75,34 +73,5 @@ loop-k-preserved c =
           ],
     )
 
-pub returns : goal.returns
-returns c =
-    let all = take_all c.loop-k.k c.args.rows.now (omega arith) in
-    told_yes (
-      subst (λ (rows : List ℕ). Past c.args.cols.now c.args.j rows c.args.next.now c.loop-k.next) all c.loop-k.invariant.1,
-      ap (set c.args.tops.now c.args.j) (c.loop-k.invariant.2 ∙ ap (greatest (at c.args.places.now)) all),
-    )
-
-pub offset_bounds-next-r : goal.offset_bounds-next-r
-offset_bounds-next-r c = omega (arith, row_in (goal.at.offset_bounds-next-r c).After-wide-r)
-
-pub bounds-next-r : goal.bounds-next-r
-bounds-next-r c = omega (arith, row_in (goal.at.bounds-next-r c).After-wide-r)
-
-pub overflow_add-next : goal.overflow_add-next
-overflow_add-next c = omega (arith, cursor_in (goal.at.overflow_add-next c).After-wide-r, c.wide-p.ensures)
-
 pub overflow_cast-next : goal.overflow_cast-next
 overflow_cast-next c = omega (arith, cursor_in (goal.at.overflow_cast-next c).After-wide-r, c.wide-p.ensures)
-
-pub offset_bounds-next-r-in-loop-k : goal.offset_bounds-next-r-in-loop-k
-offset_bounds-next-r-in-loop-k c = omega (arith, row_in (goal.at.offset_bounds-next-r-in-loop-k c).After-wide-r)
-
-pub bounds-next-r-in-loop-k : goal.bounds-next-r-in-loop-k
-bounds-next-r-in-loop-k c = omega (arith, row_in (goal.at.bounds-next-r-in-loop-k c).After-wide-r)
-
-pub offset_bounds-places-r : goal.offset_bounds-places-r
-offset_bounds-places-r c = omega (arith, row_in (goal.at.offset_bounds-places-r c).After-wide-r)
-
-pub bounds-places-r : goal.bounds-places-r
-bounds-places-r c = omega (arith, row_in (goal.at.bounds-places-r c).After-wide-r)

@@ -1,15 +1,11 @@
--- `meet`: the rows before row k have been read.
+-- `meet`: the rows before the next one have been read.
 use mathlib.Core.Path.{◌≡◌}
-use Prim.Native.Nat.{◌-◌, ◌≤◌}
-use lib.ListN.{length, take}
+use lib.ListN.{take}
 use Rattle.pattern.specs.Places.{at}
 use Rattle.pattern.specs.Series.{greatest}
 use Rattle.listing.specs.Walk.{Past}
 use Rattle.register.proofs.same.meet.Given as goal
 
-abbrev pub invariant-loop-k : goal.invariant-loop-k
-invariant-loop-k l =
-    (l.k ≤ length l.rows) × Past l.cols l.j (take l.k l.rows) l.initial.next l.next × (l.top ≡ greatest (at l.places) (take l.k l.rows))
-
-abbrev pub decreases-loop-k : goal.decreases-loop-k
-decreases-loop-k l = length l.rows - l.k
+abbrev pub invariant-loop-row : goal.invariant-loop-row
+invariant-loop-row l =
+    Past l.cols l.j (take l.row-index l.rows) l.initial.next l.next × (l.top ≡ greatest (at l.places) (take l.row-index l.rows))

@@ -30,7 +30,6 @@ P s = parts s.args.m s.args.cs.now s.args.cr.now
 pub loop-j-init : goal.loop-j-init
 loop-j-init c =
     let out = c.set_out.ensures in (
-      omega arith,
       c.requires.4,
       passed_none (P (goal.at.loop-j-init c).Start) c.args.rc.now out.0 out.1
           (λ r h. omega (arith, c.requires.1.entries_long, starts_rise c.requires.2 r c.args.m (omega arith) (omega arith))),
@@ -59,8 +58,8 @@ pub meet-requires : goal.meet-requires
 meet-requires c =
     let after_part = (goal.at.meet-requires c).After-part in
     let l = c.loop-j in record {
-      in_range = (omega (arith, c.requires.0.small), rising_within c.requires.0.small (rise after_part), l.invariant.2.cursors.long, l.invariant.1);
-      cursors_low = λ r t. cursor_small c.requires.1 c.requires.2 (P (goal.at.meet-requires c).Start) l.j l.invariant.2.cursors (omega (arith, c.requires.0.small)) r (rising_below (rise after_part) r t);
+      in_range = (omega (arith, c.requires.0.small), rising_within c.requires.0.small (rise after_part), l.invariant.1.cursors.long, l.invariant.0);
+      cursors_low = λ r t. cursor_small c.requires.1 c.requires.2 (P (goal.at.meet-requires c).Start) l.j l.invariant.1.cursors (omega (arith, c.requires.0.small)) r (rising_below (rise after_part) r t);
     }
 
 pub returns-then-not-meet : goal.returns-then-not-meet
@@ -68,7 +67,7 @@ returns-then-not-meet c =
     let after_part = (goal.at.returns-then-not-meet c).After-part in
     told_no (λ all. refuted c.meet.ensures c.if-not-meet.true
     (subst (λ (l : List ℕ). AllNext c.args.rc.now (j after_part) l c.loop-j.next) (sym (rows_are after_part))
-    (turned_next c.requires.1 c.requires.2 (P (goal.at.returns-then-not-meet c).Start) (j after_part) (good_columns c.requires.0) (in_size after_part) c.loop-j.invariant.2.cursors all)))
+    (turned_next c.requires.1 c.requires.2 (P (goal.at.returns-then-not-meet c).Start) (j after_part) (good_columns c.requires.0) (in_size after_part) c.loop-j.invariant.1.cursors all)))
 
 pub loop-j-preserved : goal.loop-j-preserved
 loop-j-preserved c =
@@ -77,17 +76,16 @@ loop-j-preserved c =
     let i = c.loop-j.invariant in
     let places = c.args.places.now in
     let d = shown c.meet.ensures c.if-not-meet.false in (
-      omega arith,
-      ap length d.1 ∙ length-set c.loop-j.tops (j after_part) _ ∙ i.1,
-      passed_more (P start) (j after_part) i.2 (rw (rows_are after_part) at d.0),
+      ap length d.1 ∙ length-set c.loop-j.tops (j after_part) _ ∙ i.0,
+      passed_more (P start) (j after_part) i.1 (rw (rows_are after_part) at d.0),
       subst (Tops (j after_part + 1) places (P start)) (sym d.1)
-          (stored_more (λ y. greatest (at places) (column (P start) y)) c.loop-j.tops (j after_part) _ (omega (arith, in_size after_part, c.requires.0.small)) (ap (greatest (at places)) (rows_are after_part)) i.3),
+          (stored_more (λ y. greatest (at places) (column (P start) y)) c.loop-j.tops (j after_part) _ (omega (arith, in_size after_part, c.requires.0.small)) (ap (greatest (at places)) (rows_are after_part)) i.2),
     )
 
 pub returns : goal.returns
 returns c =
     let start = (goal.at.returns c).Start in
     let e : c.loop-j.j ≡ c.args.m = omega arith in
-    let W : Passed c.args.m (at c.args.rs.now) c.args.rc.now (λ r. row_of (P start) r c.args.m) c.loop-j.next = rw e at c.loop-j.invariant.2 in
-    told_as (λ ends. (ends_turned (P start) c.requires.1 c.requires.2 W ends, (λ y h. c.loop-j.invariant.3 y (omega arith)), c.loop-j.invariant.2.cursors.long, c.loop-j.invariant.1))
+    let W : Passed c.args.m (at c.args.rs.now) c.args.rc.now (λ r. row_of (P start) r c.args.m) c.loop-j.next = rw e at c.loop-j.invariant.1 in
+    told_as (λ ends. (ends_turned (P start) c.requires.1 c.requires.2 W ends, (λ y h. c.loop-j.invariant.2 y (omega arith)), c.loop-j.invariant.1.cursors.long, c.loop-j.invariant.0))
     (λ n all. n (turned_ends (P start) c.requires.1 c.requires.2 W all)) c.all_met.ensures

@@ -1,6 +1,5 @@
 -- `same`: the columns before j have been read; what the cursors then say.
 use mathlib.Core.Path.{◌≡◌}
-use Prim.Native.Nat.{◌-◌, ◌≤◌}
 use lib.ListN.{length}
 use Rattle.pattern.specs.Places.{at}
 use Rattle.pattern.specs.Turned.{row_of}
@@ -12,7 +11,4 @@ use Rattle.register.proofs.same.same.Given as goal
 
 abbrev pub invariant-loop-j : goal.invariant-loop-j
 invariant-loop-j l =
-    (l.j ≤ l.m) × (length l.tops ≡ max_size) × Passed l.m (at l.rs) l.rc (λ r. row_of (parts l.m l.cs l.cr) r l.j) l.next × Tops l.j l.places (parts l.m l.cs l.cr) l.tops
-
-abbrev pub decreases-loop-j : goal.decreases-loop-j
-decreases-loop-j l = l.m - l.j
+    (length l.tops ≡ max_size) × Passed l.m (at l.rs) l.rc (λ r. row_of (parts l.m l.cs l.cr) r l.j) l.next × Tops l.j l.places (parts l.m l.cs l.cr) l.tops

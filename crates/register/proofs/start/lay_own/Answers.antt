@@ -1,27 +1,19 @@
--- `lay_own`: the places below t hold their own numbers.
-use mathlib.Core.Path.{◌≡◌, sym}
+-- `lay_own`: the places before t hold their own numbers.
+use mathlib.Core.List.{List, ◌++◌}
+use mathlib.Core.Path.{◌≡◌, sym, ap₂, ◌∙◌}
 use Prim.Native.Nat.{ℕ}
 use native.Mathlib.Omega.{arith}
-use lib.ListN.{length}
+use lib.ListN.{length, drop}
+use lib.Seq.{ext_get_or, length-take-le}
 use Rattle.pattern.proofs.Each.{length_each, each_at}
-use Rattle.listing.proofs.Storing.{stored_none, stored_more, stored_all}
 use Rattle.register.specs.Start.{own_places}
 use Rattle.register.proofs.start.lay_own.Goals as goal
 
-long : (m : ℕ) → length (own_places m) ≡ m
-long m = length_each (λ t. t) m
-
-pub loop-t-preserved : goal.loop-t-preserved
-loop-t-preserved c =
-    let l = c.loop-t in
-    let m = c.args.m in
-    (omega arith, stored_more l.t l.t (omega (arith, long m)) (omega (arith, long m)) (omega arith) (sym (each_at (λ t. t) m l.t 0 (omega arith))) l.invariant.1)
-
-pub shape_of-list : goal.shape_of-list
-shape_of-list c = c.loop-t.invariant.1.long
-
 pub returns : goal.returns
-returns c = stored_all (omega (arith, long c.args.m)) c.loop-t.invariant.1
-
-pub loop-t-init : goal.loop-t-init
-loop-t-init c = (omega arith, stored_none)
+returns c =
+    let m = c.args.m in
+    let l = c.args.list.now in
+    let n = length-take-le m l (omega arith) in
+    let own : length (own_places m) ≡ m = length_each (λ t. t) m in
+    let all : c.loop-t.number-items ≡ own_places m = ext_get_or 0 _ (own_places m) (omega (arith, n, own)) (λ i h. c.loop-t.invariant i (omega (arith, n)) ∙ sym (each_at (λ t. t) m i 0 (omega (arith, n)))) in
+    ap₂ (λ (j : List ℕ) (k : ℕ). j ++ drop k l) all (sym own)
