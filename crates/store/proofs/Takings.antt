@@ -24,7 +24,7 @@ use Rattle.listing.specs.Listing.{between, part, parts, Within, Good}
 use Rattle.listing.proofs.Between.{between_none, between_length, between_same, between_between}
 use Rattle.listing.proofs.Holding.{over_rest, over_is, over_length}
 use Rattle.listing.proofs.Listings.{starts_rise, part_is, good_within, start_small}
-use Rattle.listing.proofs.Puts.{put_over, put_length}
+use Rattle.listing.proofs.Puts.{put_over}
 use Rattle.store.specs.Store.{without, left, emptied, Lowered, Changing, Cut, Piece}
 use Rattle.store.proofs.Pieces.{piece_within, piece_left}
 use Rattle.store.proofs.Without.{without_none}
@@ -154,9 +154,6 @@ module _ {m c r : ℕ} {these starts entries : List ℕ} (G : Good m starts entr
 
     -- ---- The end
 
-    pub taken_few : gone ≤ from
-    taken_few = omega (arith, K.many)
-
     module _ (all : i ≡ length these) where
       same : (x : ℕ) → k ≤ x → x < m → f x ≡ part starts entries x
       same x h b = untouched x h b (λ y u v. absurd (omega arith))
@@ -174,13 +171,6 @@ module _ {m c r : ℕ} {these starts entries : List ℕ} (G : Good m starts entr
         omega (arith, K.many, K.here, start_small G k K.in_size),
         λ x h b. omega (arith, K.high x h, run_start x h (omega arith) (λ y u v. same y u (omega arith))),
       )
-
-      pub taken_long : {entries'' : List ℕ} → entries'' ≡ put (from - gone) (between from (at starts m) entries') entries' → length entries'' ≡ length entries
-      taken_long down =
-          ap length down
-          ∙ put_length (from - gone) (between from (at starts m) entries') entries'
-          (omega (arith, last_down.0, last_down.1, last_down.2, between_length from (at starts m) entries' last_down.2))
-          ∙ entries_long
 
       pub taken_all : {starts'' entries'' : List ℕ} → entries'' ≡ put (from - gone) (between from (at starts m) entries') entries' → Lowered k (m + 1) gone starts' starts''
           → Held Q starts entries starts'' entries''

@@ -12,14 +12,10 @@ use listing::wide::wide;
 pub fn below(numbers: &[u16], c: usize) -> usize
     ensures { Cut c result numbers.now }
 {
-    let mut n = 0;
-    while n < numbers.len() {
-        if c <= wide(numbers[n]) {
-            return n;
-        }
-        n += 1;
-    }
-    n
+    numbers
+        .iter()
+        .position(|x| c <= wide(*x))
+        .unwrap_or(numbers.len())
 }
 
 // Writes the numbers with r among them at the head of a list, and replies how many they are.

@@ -12,7 +12,7 @@ ghost use Rattle.listing.specs.Listing.{between, part, parts, Within, Good};
 ghost use Rattle.store.specs.Store.{emptied, filled, exchanged, spread, Changing, LetIn, Piece};
 
 use crate::join::below;
-use crate::moves::{lower, move_down, move_up, raise};
+use crate::moves::{lower, raise};
 use listing::MAX_SIZE;
 use listing::listing::part;
 use listing::lists::{copy, first};
@@ -42,22 +42,20 @@ fn take_out(m: usize, starts: &mut [u16], entries: &mut [u16], c: usize, r: usiz
     ensures { Held (emptied m (parts m starts.old entries.old) c r)
         starts.old entries.old starts.new entries.new }
 {
-    let mut from: usize = 0;
-    let mut k: usize = 0;
-    let mut gone: usize = 0;
-    let mut i: usize = 0;
-    while i < these.len() {
-        let j = wide(these[i]);
+    let mut from = 0;
+    let mut k = 0;
+    let mut gone = 0;
+    for j in these {
+        let j = wide(*j);
         let out = piece(starts, entries, c, r, j);
-        move_down(entries, from, out.from, from - gone);
+        entries.copy_within(from..out.from, from - gone);
         lower(starts, k, j + 1, gone);
         gone += out.to - out.from;
         from = out.to;
         k = j + 1;
-        i += 1;
     }
     let end = wide(starts[m]);
-    move_down(entries, from, end, from - gone);
+    entries.copy_within(from..end, from - gone);
     lower(starts, k, m + 1, gone);
 }
 
@@ -96,7 +94,7 @@ fn insert(m: usize, cs: &mut [u16], cr: &mut [u16], c: usize, rows: &[u16])
     let n = rows.len();
     let from = wide(cs[c]);
     let to = wide(cs[m]);
-    move_up(cr, from, to, n);
+    cr.copy_within(from..to, from + n);
     raise(cs, c, m, n);
     copy(rows, from, cr);
 }
@@ -117,7 +115,7 @@ fn let_in(
     ensures { LetIn c k end top i starts.old entries.old starts.new entries.new result }
 {
     let q = wide(starts[k]) + below(part(starts, entries, k), c);
-    move_up(entries, q, end, i + 1);
+    entries.copy_within(q..end, q + (i + 1));
     entries[q + i] = c as u16;
     raise(starts, k, top, i + 1);
     q
@@ -132,9 +130,7 @@ fn spread(m: usize, starts: &mut [u16], entries: &mut [u16], c: usize, these: &[
 {
     let mut end = wide(starts[m]);
     let mut top = m;
-    let mut i = these.len();
-    while 0 < i {
-        i -= 1;
+    for i in (0..these.len()).rev() {
         let k = wide(these[i]);
         end = let_in(starts, entries, c, k, end, top, i);
         top = k;

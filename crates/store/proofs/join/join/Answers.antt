@@ -43,11 +43,6 @@ copy-requires-2 c =
       c.requires.2,
     )
 
-pub shape_of-list : goal.shape_of-list
-shape_of-list c =
-    let k = c.copy in
-    omega (arith, c.copy-2.auto.list, length-set k.new.list (q (goal.at.shape_of-list c).After-below) c.args.r, k.auto.list)
-
 pub returns : goal.returns
 returns c =
     let a = c.args in

@@ -1,10 +1,12 @@
--- `lower`: the starts from place `from` up to place k have been lowered.
-use Prim.Native.Nat.{◌-◌, ◌≤◌}
-use Rattle.store.specs.Store.{Lowered}
+-- `lower`: the starts before this one have been lowered.
+use mathlib.Core.Path.{◌≡◌}
+use Prim.Native.Nat.{ℕ, ◌+◌, ◌≤◌, ◌<◌}
+use Rattle.pattern.specs.Places.{at}
 use Rattle.store.proofs.moves.lower.Given as goal
 
-abbrev pub invariant-loop-k : goal.invariant-loop-k
-invariant-loop-k l = (l.from ≤ l.k) × (l.k ≤ l.to) × Lowered l.from l.k l.n l.initial.starts l.starts
-
-abbrev pub decreases-loop-k : goal.decreases-loop-k
-decreases-loop-k l = l.to - l.k
+abbrev pub invariant-loop-s : goal.invariant-loop-s
+invariant-loop-s l =
+    record {
+      done : (k : ℕ) → k < l.s-index → at l.s-items k + l.n ≡ at l.initial.s-items k;
+      left : (k : ℕ) → l.s-index ≤ k → at l.s-items k ≡ at l.initial.s-items k;
+    }

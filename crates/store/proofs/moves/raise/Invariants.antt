@@ -1,10 +1,12 @@
--- `raise`: the starts past start c, up to start k, have been raised.
-use Prim.Native.Nat.{◌-◌, ◌≤◌}
-use Rattle.store.specs.Store.{Raised}
+-- `raise`: the starts before this one have been raised.
+use mathlib.Core.Path.{◌≡◌}
+use Prim.Native.Nat.{ℕ, ◌+◌, ◌≤◌, ◌<◌}
+use Rattle.pattern.specs.Places.{at}
 use Rattle.store.proofs.moves.raise.Given as goal
 
-abbrev pub invariant-loop-k : goal.invariant-loop-k
-invariant-loop-k l = (l.c ≤ l.k) × (l.k ≤ l.m) × Raised l.c l.k l.n l.initial.starts l.starts
-
-abbrev pub decreases-loop-k : goal.decreases-loop-k
-decreases-loop-k l = l.m - l.k
+abbrev pub invariant-loop-s : goal.invariant-loop-s
+invariant-loop-s l =
+    record {
+      done : (k : ℕ) → k < l.s-index → at l.s-items k ≡ at l.initial.s-items k + l.n;
+      left : (k : ℕ) → l.s-index ≤ k → at l.s-items k ≡ at l.initial.s-items k;
+    }

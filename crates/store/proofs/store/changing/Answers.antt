@@ -5,10 +5,8 @@ use Prim.Native.Nat.{ℕ, ◌≤◌, ◌<◌}
 use native.Mathlib.Omega.{arith}
 use lib.ListN.{length, set, length-set}
 use lib.Seq.{get_or-set_same}
-use Rattle.listing.specs.Listing.{between}
 use Rattle.listing.proofs.Between.{between_one}
 use Rattle.listing.proofs.Listings.{good_within}
-use Rattle.listing.proofs.Puts.{put_read, put_length}
 use Rattle.listing.proofs.Rises.{rising_few}
 use Rattle.store.proofs.store.changing.Goals as goal
 use Rattle.store.proofs.store.changing.Goals.{After-part-columns}
@@ -35,13 +33,3 @@ module _ (c : After-part-columns) where
 
 pub copy-requires : goal.copy-requires
 copy-requires c = omega (arith, fits (goal.at.copy-requires c).After-part-columns)
-
-pub returns : goal.returns
-returns c =
-    let after_part_columns = (goal.at.returns c).After-part-columns in
-    let long = ap length c.copy.ensures ∙ put_length 0 c.part-columns.result.now c.args.list.now (omega (arith, fits after_part_columns)) in (
-      omega (arith, long, fits after_part_columns),
-      long ∙ c.requires.2,
-      λ h. ap (between 0 (length c.part-columns.result.now)) c.copy.ensures ∙ put_read c.part-columns.result.now c.args.list.now ∙ c.part-columns.ensures,
-      λ h. absurd (omega arith),
-    )

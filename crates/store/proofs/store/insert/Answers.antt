@@ -1,17 +1,19 @@
 -- `insert`: the later entries go up, their starts are raised, and the rows are copied in between.
 use mathlib.Core.List.{List}
-use mathlib.Core.Path.{◌≡◌, refl}
+use mathlib.Core.Path.{◌≡◌, refl, ◌∙◌}
 use Prim.Native.Nat.{ℕ, ◌+◌, ◌≤◌}
 use native.Mathlib.Omega.{arith}
 use lib.ListN.{length}
 use Rattle.pattern.specs.Flat.{start_of}
 use Rattle.pattern.specs.Places.{at}
-use Rattle.listing.specs.Listing.{parts}
+use Rattle.listing.specs.Held.{put}
+use Rattle.listing.specs.Listing.{between, parts}
 use Rattle.listing.proofs.Listings.{starts_rise}
 use Rattle.store.specs.Store.{filled}
+use Rattle.store.proofs.Moving.{moved}
 use Rattle.store.proofs.Fillings.{filled_total, filled_room, filled_held}
 use Rattle.store.proofs.store.insert.Goals as goal
-use Rattle.store.proofs.store.insert.Goals.{After-wide-to}
+use Rattle.store.proofs.store.insert.Goals.{After-copy_within, After-wide-to}
 
 -- The places, once they have been read.
 module _ (c : After-wide-to) where
@@ -39,10 +41,22 @@ module _ (c : After-wide-to) where
   fits : at cs m + length new ≤ length c.args.cr.now
   fits = omega (arith, total, c.requires.room.1)
 
-pub move_up-requires : goal.move_up-requires
-move_up-requires c =
-    let after_wide_to = (goal.at.move_up-requires c).After-wide-to in
-    omega (arith, begins after_wide_to, ends after_wide_to, rise after_wide_to c.args.c (omega (arith, c.requires.good.1)), fits after_wide_to)
+pub copy_within-requires : goal.copy_within-requires
+copy_within-requires c =
+    let w = (goal.at.copy_within-requires c).After-wide-to in
+    let r = rise w c.args.c (omega (arith, c.requires.good.1)) in
+    record {
+      start_le_end = omega (arith, begins w, ends w, r);
+      in_bounds = omega (arith, ends w, fits w);
+      dest_in_bounds = omega (arith, begins w, ends w, r, fits w);
+      not_exhausted = tt;
+    }
+
+-- The later entries have gone up.
+module _ (c : After-copy_within) where
+  up : c.copy_within.new.self ≡ put (c.wide-from.result + length c.args.rows.now) (between c.wide-from.result c.wide-to.result c.args.cr.now) c.args.cr.now
+  up = c.copy_within.ensures.after ∙ moved c.args.cr.now c.wide-from.result c.wide-to.result (c.wide-from.result + length c.args.rows.now)
+      (let w = (goal.at.After-copy_within c).After-wide-to in omega (arith, ends w, fits w))
 
 pub raise-requires : goal.raise-requires
 raise-requires c =
@@ -52,10 +66,10 @@ raise-requires c =
 pub copy-requires : goal.copy-requires
 copy-requires c =
     let after_wide_to = (goal.at.copy-requires c).After-wide-to in
-    filled_room c.requires.good.0 (new after_wide_to) c.requires.good.1 c.requires.good.2 (begins after_wide_to) (ends after_wide_to) refl c.requires.room.1 c.move_up.ensures
+    filled_room c.requires.good.0 (new after_wide_to) c.requires.good.1 c.requires.good.2 (begins after_wide_to) (ends after_wide_to) refl c.requires.room.1 (up (goal.at.copy-requires c).After-copy_within)
 
 pub returns : goal.returns
 returns c =
     let after_wide_to = (goal.at.returns c).After-wide-to in
-    filled_held c.requires.good.0 (new after_wide_to) c.requires.good.1 c.requires.good.2 (begins after_wide_to) (ends after_wide_to) refl c.requires.room.1 c.move_up.ensures c.raise.ensures
+    filled_held c.requires.good.0 (new after_wide_to) c.requires.good.1 c.requires.good.2 (begins after_wide_to) (ends after_wide_to) refl c.requires.room.1 (up (goal.at.returns c).After-copy_within) c.raise.ensures
     c.copy.ensures

@@ -10,6 +10,7 @@ use Rattle.listing.specs.Listing.{between, part}
 use Rattle.listing.proofs.Between.{between_length}
 use Rattle.listing.proofs.Puts.{put_front}
 use Rattle.store.specs.Store.{Cut}
+use Rattle.store.proofs.Moving.{moved}
 use Rattle.store.proofs.store.let_in.Goals as goal
 use Rattle.store.proofs.store.let_in.Goals.{After-below}
 
@@ -35,16 +36,6 @@ module _ (c : After-below) where
       let W = c.requires.within.3 in
       omega (arith, cut.within, between_length (at starts k) (at starts (k + 1)) entries W.in_list, W.no_fall)
 
-pub move_up-requires : goal.move_up-requires
-move_up-requires c =
-    let after_below = (goal.at.move_up-requires c).After-below in
-    omega (arith, begins after_below, upto after_below, c.requires)
-
-pub bounds-entries-q : goal.bounds-entries-q
-bounds-entries-q c =
-    let after_below = (goal.at.bounds-entries-q c).After-below in
-    omega (arith, c.move_up.auto.list, begins after_below, upto after_below, c.requires)
-
 pub returns : goal.returns
 returns c =
     let after_below = (goal.at.returns c).After-below in
@@ -56,7 +47,7 @@ returns c =
       from = omega (arith, begins after_below);
       cut = subst (λ (n : ℕ). Cut a.c n (part (starts after_below) (entries after_below) (k after_below))) (sym x) (cut after_below);
       entries_now =
-          ap (λ (l : List ℕ). set l (q + a.i) a.c) (c.move_up.ensures ∙ ap (λ (n : ℕ). put n (between q a.end (entries after_below)) (entries after_below)) n)
+          ap (λ (l : List ℕ). set l (q + a.i) a.c) (c.copy_within.ensures.after ∙ moved (entries after_below) q a.end (q + (a.i + 1)) (omega (arith, c.requires)) ∙ ap (λ (n : ℕ). put n (between q a.end (entries after_below)) (entries after_below)) n)
           ∙ put_front (q + a.i) (between q a.end (entries after_below)) (entries after_below) a.c (omega (arith, begins after_below, upto after_below, c.requires));
       raised = c.raise.ensures;
     }

@@ -43,12 +43,3 @@ pub returns : goal.returns
 returns c =
     let p = c.requires in
     spreading_all p.good.0 p.good.1 p.good.2 p.good.3 p.room.1 c.loop-i.invariant (omega arith)
-
-pub bounds-these-i : goal.bounds-these-i
-bounds-these-i c = omega (arith, c.loop-i.invariant.upto)
-
-pub shape_of-starts : goal.shape_of-starts
-shape_of-starts c = c.loop-i.invariant.kept.long
-
-pub shape_of-entries : goal.shape_of-entries
-shape_of-entries c = c.loop-i.invariant.entries_long

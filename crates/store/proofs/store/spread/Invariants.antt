@@ -4,6 +4,3 @@ use Rattle.store.proofs.store.spread.Given as goal
 
 abbrev pub invariant-loop-i : goal.invariant-loop-i
 invariant-loop-i l = Spreading l.m l.c l.these l.initial.starts l.initial.entries l.starts l.entries l.end l.top l.i
-
-abbrev pub decreases-loop-i : goal.decreases-loop-i
-decreases-loop-i l = l.i

@@ -1,13 +1,8 @@
 -- `take_out`: a turn deletes a piece of the next part that changes, and what stands before the piece goes down.
-use Prim.Native.Nat.{◌-◌}
-use lib.ListN.{length}
 use Rattle.listing.specs.Listing.{parts}
 use Rattle.store.proofs.Takings.{Taken}
 use Rattle.store.proofs.store.take_out.Given as goal
 
-abbrev pub invariant-loop-i : goal.invariant-loop-i
-invariant-loop-i l =
-    Taken l.m (parts l.m l.initial.starts l.initial.entries) l.c l.r l.these l.initial.starts l.initial.entries l.starts l.entries l.from l.k l.gone l.i
-
-abbrev pub decreases-loop-i : goal.decreases-loop-i
-decreases-loop-i l = length l.these - l.i
+abbrev pub invariant-loop-j : goal.invariant-loop-j
+invariant-loop-j l =
+    Taken l.m (parts l.m l.initial.starts l.initial.entries) l.c l.r l.these l.initial.starts l.initial.entries l.starts l.entries l.from l.k l.gone l.j-index
