@@ -11,10 +11,13 @@ use lib.ListN.{length, take, drop, set, length-append, get_or-append}
 use lib.Seq.{take-append_seam, set_split, append_snoc, get_or_at}
 use borrow.Author.Tests.{eq-eqb, ne_eqb}
 use Rattle.pattern.specs.Places.{at}
+use Rattle.std.specs.Prelude.{Some}
 use Rattle.listing.specs.Held.{over}
 use Rattle.listing.proofs.Holding.{over_length}
 use Rattle.listing.proofs.Puts.{over_over}
 use Rattle.text.specs.Spelling.{Spelt, empty, gap, inside, wrong, with_space, with_digit, with_byte, stand, passed, first_at, stored_at}
+use Rattle.text.specs.declared.lines.Stand.{Stand}
+use Rattle.text.specs.declared.lines.Stand.TheVariants.{Gap, Inside}
 use Rattle.text.proofs.Spellings.{byte_cases, number_cases, wrong_more}
 
 abbrev pub begun : Spelt → List ℕ
@@ -85,30 +88,36 @@ Leads (gap l) first = first ≡ at l 0
 Leads (inside l v) first = first ≡ at (l ++ (v ∷ [])) 0
 Leads wrong first = Unit {0}
 
-leads_on : (k : List ℕ) (y : Spelt) (first : ℕ) → GoesOn k y → first ≡ at k 0 → Leads y (first_at (stand y) first)
-leads_on k empty first g e = absurd g
-leads_on k (gap l) first g e = e ∙ ap (λ (t : List ℕ). at t 0) g
-leads_on k (inside l v) first g e = go (dec_lt 0 (length l))
+leads_on : (k : List ℕ) (y : Spelt) (r : Stand) (first : ℕ) → GoesOn k y → Some r ≡ stand y → first ≡ at k 0 → Leads y (first_at r first)
+leads_on k empty r first g u e = absurd g
+leads_on k (gap l) r first g u e =
+    let s : r ≡ Gap (length l) = cc in ap (λ (r : Stand). first_at r first) s ∙ e ∙ ap (λ (t : List ℕ). at t 0) g
+leads_on k (inside l v) r first g u e =
+    let s : r ≡ Inside (length l) v = cc in ap (λ (r : Stand). first_at r first) s ∙ go (dec_lt 0 (length l))
   where
     go : Dec (0 < length l) → cond (eqb (length l) 0) v first ≡ at (l ++ (v ∷ [])) 0
     go (yes h) = rw (ne_eqb (length l) 0 (λ u. omega arith)) (e ∙ first_stays g v h)
     go (no h) = rw (eq-eqb (length l) 0 (omega arith)) (sym (get_or_at l v [] 0 0 (omega arith)))
-leads_on k wrong first g e = tt
+leads_on k wrong r first g u e = tt
 
-pub leads_more : (x : Spelt) (b first : ℕ) → Leads x first → Leads (with_byte x b) (first_at (stand (with_byte x b)) first)
-leads_more empty b first e = leads_on [] (with_byte empty b) first (byte_goes_on empty b) e
-leads_more (gap l) b first e = leads_on l (with_byte (gap l) b) first (byte_goes_on (gap l) b) e
-leads_more (inside l v) b first e = leads_on (l ++ (v ∷ [])) (with_byte (inside l v) b) first (byte_goes_on (inside l v) b) e
-leads_more wrong b first e = rw (wrong_more b) tt
+pub leads_more : (x : Spelt) (b : ℕ) (r : Stand) (first : ℕ) → Some r ≡ stand (with_byte x b) → Leads x first → Leads (with_byte x b) (first_at r first)
+leads_more empty b r first u e = leads_on [] (with_byte empty b) r first (byte_goes_on empty b) u e
+leads_more (gap l) b r first u e = leads_on l (with_byte (gap l) b) r first (byte_goes_on (gap l) b) u e
+leads_more (inside l v) b r first u e = leads_on (l ++ (v ∷ [])) (with_byte (inside l v) b) r first (byte_goes_on (inside l v) b) u e
+leads_more wrong b r first u e = rw (wrong_more b) tt
 
 -- ---- A list that keeps them
 
-kept_on : (k old now : List ℕ) (y : Spelt) → GoesOn k y → ¬ (y ≡ wrong) → passed (stand y) < length old → now ≡ over k old → stored_at (stand y) now ≡ over (begun y) old
-kept_on k old now empty g n h e = absurd g
-kept_on k old now (gap l) g n h e = e ∙ ap (λ (t : List ℕ). over t old) g
-kept_on k old now (inside l v) g n h e = ap (λ (t : List ℕ). set t (length l) v) e ∙ number_kept g v old h
-kept_on k old now wrong g n h e = absurd (n refl)
+kept_on : (k old now : List ℕ) (y : Spelt) (r : Stand) → GoesOn k y → Some r ≡ stand y → passed r < length old → now ≡ over k old → stored_at r now ≡ over (begun y) old
+kept_on k old now empty r g u h e = absurd g
+kept_on k old now (gap l) r g u h e =
+    let s : r ≡ Gap (length l) = cc in ap (λ (r : Stand). stored_at r now) s ∙ e ∙ ap (λ (t : List ℕ). over t old) g
+kept_on k old now (inside l v) r g u h e =
+    let s : r ≡ Inside (length l) v = cc in
+    let n : length l < length old = omega (arith, ap passed s) in
+    ap (λ (r : Stand). stored_at r now) s ∙ ap (λ (t : List ℕ). set t (length l) v) e ∙ number_kept g v old n
+kept_on k old now wrong r g u h e = cc
 
-pub kept_more : (x : Spelt) (b : ℕ) (old now : List ℕ) → ¬ (with_byte x b ≡ wrong) → passed (stand (with_byte x b)) < length old → now ≡ over (begun x) old
-    → stored_at (stand (with_byte x b)) now ≡ over (begun (with_byte x b)) old
-kept_more x b old now n h e = kept_on (begun x) old now (with_byte x b) (byte_goes_on x b) n h e
+pub kept_more : (x : Spelt) (b : ℕ) (old now : List ℕ) (r : Stand) → Some r ≡ stand (with_byte x b) → passed r < length old → now ≡ over (begun x) old
+    → stored_at r now ≡ over (begun (with_byte x b)) old
+kept_more x b old now r u h e = kept_on (begun x) old now (with_byte x b) r (byte_goes_on x b) u h e

@@ -5,12 +5,12 @@ use mathlib.Core.Path.{◌≡◌, refl, sym, ap, ◌∙◌}
 use Prim.Native.Nat.{ℕ}
 use lib.ListN.{length}
 use Rattle.pattern.specs.Places.{at}
+use Rattle.std.specs.Prelude.{Option, Some, None}
 use Rattle.listing.specs.Contract.{Determined}
 use Rattle.listing.proofs.Determined.{same}
 use Rattle.text.specs.Heard.{Hears}
 use Rattle.text.specs.Puts.{Puts}
 use Rattle.text.specs.declared.lines.Heard.{Heard}
-use Rattle.text.specs.declared.lines.Heard.TheVariants.{Numbers, Nothing}
 use Rattle.text.proofs.Speaking.{speaks_one}
 use Rattle.text.proofs.lines.hear.Kinds as hear-kinds
 use Rattle.text.proofs.lines.hear.Reads as hear
@@ -29,15 +29,15 @@ use Rattle.text.proofs.write.put_numbers.Reads as put-numbers
 
 -- ---- Lines
 
-hears_one : (word line : List ℕ) (x y : Heard) → Hears word line x → Hears word line y → x ≡ y
-hears_one word line (Numbers f n) (Numbers g k) (l, s, a, b) (l', s', a', b') =
+hears_one : (word line : List ℕ) (x y : Option Heard) → Hears word line x → Hears word line y → x ≡ y
+hears_one word line (Some x) (Some y) (l, s, a, b) (l', s', a', b') =
     let e = speaks_one s s' in
-    let first : f ≡ g = a ∙ ap (λ (l : List ℕ). at l 0) e ∙ sym a' in
-    let count : n ≡ k = b ∙ ap length e ∙ sym b' in
-    λ i. Numbers (first i) (count i)
-hears_one word line (Numbers f n) Nothing (l, s, a, b) none = absurd (none (l, s))
-hears_one word line Nothing (Numbers g k) none (l, s, a, b) = absurd (none (l, s))
-hears_one word line Nothing Nothing p q = refl
+    let first : x.first ≡ y.first = a ∙ ap (λ (l : List ℕ). at l 0) e ∙ sym a' in
+    let count : x.count ≡ y.count = b ∙ ap length e ∙ sym b' in
+    λ i. Some (record { first = first i; count = count i })
+hears_one word line (Some x) None (l, s, a, b) none = absurd (none (l, s))
+hears_one word line None (Some y) none (l, s, a, b) = absurd (none (l, s))
+hears_one word line None None p q = refl
 
 pub hear_determined : Determined hear-kinds.ps hear-kinds.r hear.Pre hear.Post
 hear_determined κs a h x y ws vs p q = (hears_one _ _ x y p q, refl)

@@ -6,12 +6,19 @@ use Prim.Native.Nat.{ℕ, suc}
 use native.Mathlib.Omega.{arith}
 use lib.ListN.{length}
 use Rattle.pattern.specs.Places.{at}
+use Rattle.std.specs.Prelude.{Some}
 use Rattle.text.specs.Heard.{Hears}
 use Rattle.text.specs.Text.{Speaks}
-use Rattle.text.specs.declared.lines.Heard.TheVariants.{Numbers}
+use Rattle.text.specs.declared.lines.Heard.{Heard}
 use Rattle.text.proofs.Speaking.{speaks_one}
 
-module _ (word line : List ℕ) {first count : ℕ} (h : Hears word line (Numbers first count)) where
+module _ (word line : List ℕ) {heard : Heard} (h : Hears word line (Some heard)) where
+  abbrev first : ℕ
+  first = heard.first
+
+  abbrev count : ℕ
+  count = heard.count
+
   -- Any numbers that the line says are these.
   pub heard_are : {l : List ℕ} → Speaks line word l → (first ≡ at l 0) × (count ≡ length l)
   heard_are s = let e = speaks_one h.1 s in (h.2 ∙ ap (λ (l : List ℕ). at l 0) e, h.3 ∙ ap length e)

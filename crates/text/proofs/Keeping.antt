@@ -1,66 +1,71 @@
--- The numbers of a line that are kept in a list while the line is read. Rests on Scans.antt and Begun.antt.
-use mathlib.Core.List.{List}
-use mathlib.Core.Path.{◌≡◌, refl, sym, ap, ◌∙◌, subst}
-use Prim.Native.Nat.{ℕ, ◌+◌, ◌-◌, ◌≤◌, ◌<◌}
+-- The numbers of a line that are kept in a list while the line is read. Rests on Scans.antt, Begun.antt and Stands.antt.
+use mathlib.Core.List.{List, ◌++◌}
+use mathlib.Core.Path.{◌≡◌, refl, sym, ap, ap₂, ◌∙◌}
+use Prim.Native.Nat.{ℕ, ◌+◌, ◌≤◌, ◌<◌}
 use native.Mathlib.Omega.{arith}
-use lib.ListN.{length, drop}
+use lib.ListN.{length, length-append, take-append-drop}
 use Rattle.pattern.specs.Places.{at}
 use Rattle.listing.specs.Held.{over}
+use Rattle.listing.specs.Listing.{between}
+use Rattle.std.proofs.lemmas.Slice.{between_to_end}
+use Rattle.std.specs.Prelude.{Option, Some, None, IsSome}
 use Rattle.text.specs.Heard.{SaysSome}
 use Rattle.text.specs.Spelling.{Spelt, empty, gap, inside, wrong, with_byte, stand, passed, stored_at}
 use Rattle.text.specs.Text.{max_line, max_numbers, Speaks}
 use Rattle.text.specs.declared.lines.Stand.{Stand}
 use Rattle.text.specs.declared.lines.Stand.TheVariants.{Word}
 use Rattle.text.proofs.Begun.{begun, kept_more}
-use Rattle.text.proofs.Readings.{reads, reads_wrong, Ends}
-use Rattle.text.proofs.Scans.{Scanned, scanned_none, scanned_more, scanned_few, scanned_left, scanned_end}
+use Rattle.text.proofs.Readings.{reads, Ends}
+use Rattle.text.proofs.Scans.{scan, scan_more, scan_few, scan_right, scan_end}
 use Rattle.text.proofs.Speaking.{speaks_begins}
+use Rattle.text.proofs.Stands.{at_none}
 
--- The reader has come to place `i`, stands so, and the list keeps the numbers that have begun.
-pub record Keeping (line word old : List ℕ) (i : ℕ) (s : Stand) (now : List ℕ) : Type 0 where
-  pub so_far : Spelt
-  pub shows : s ≡ stand so_far
-  pub scan : Scanned line word i so_far
-  pub kept : now ≡ over (begun so_far) old
+-- The bytes behind the word of a line that says numbers.
+pub behind : {line word : List ℕ} → SaysSome word line → line ≡ word ++ between (length word) (length line) line
+behind {line} {word} p =
+    sym (take-append-drop (length word) line) ∙ ap₂ (λ (k l : List ℕ). k ++ l) (speaks_begins line word p) (sym (between_to_end line (length word) (length line) (omega arith)))
+
+-- The reader has read the first `i` bytes, stands so, and the list keeps the numbers that have begun.
+pub record Keeping (bytes old : List ℕ) (i : ℕ) (s : Stand) (now : List ℕ) : Type 0 where
+  pub shows : Some s ≡ stand (scan bytes i)
+  pub kept : now ≡ over (begun (scan bytes i)) old
   pub long : length now ≡ length old
 
-pub keeping_none : {line word old : List ℕ} → SaysSome word line → Keeping line word old (length word) Word old
-keeping_none {line} {word} p = record { so_far = empty; shows = refl; scan = scanned_none (speaks_begins line word p); kept = refl; long = refl }
+pub keeping_none : {bytes old : List ℕ} → Keeping bytes old 0 Word old
+unfolding reads
+keeping_none = record { shows = refl; kept = refl; long = refl }
 
--- The line says numbers: what has been read of it is not wrong.
-not_wrong : {line word : List ℕ} {i : ℕ} {x : Spelt} → SaysSome word line → Scanned line word i x → ¬ (x ≡ wrong)
-not_wrong {line} {i = i} p s e =
-    subst (λ (y : Spelt). Ends y p.0) (ap (λ (y : Spelt). reads y (drop i line)) e ∙ reads_wrong (drop i line)) (scanned_left s p.0 p.1)
+module _ {bytes old : List ℕ} {i : ℕ} {s : Stand} {now : List ℕ} (k : Keeping bytes old i s now) (line word : List ℕ) (split : line ≡ word ++ bytes) where
+  -- One byte more, which is none that may not stand there.
+  module _ (h : i < length bytes) where
+    pub keeping_right : SaysSome word line → (o : Option Stand) → ((x : Spelt) → Some s ≡ stand x → o ≡ stand (with_byte x (at bytes i))) → IsSome o
+    keeping_right p (Some r) q = refl
+    keeping_right p None q = absurd (scan_right bytes (i + 1) split p.0 p.1 (scan_more bytes i h ∙ at_none _ (q (scan bytes i) k.shows)))
 
-module _ {line word old : List ℕ} {i : ℕ} {s : Stand} {now : List ℕ} (k : Keeping line word old i s now) where
-  pub keeping_few : i ≤ length line → passed s + passed s ≤ i - 1
-  keeping_few h = rw k.shows (scanned_few k.scan h)
+    module _ {r : Stand} (q : (x : Spelt) → Some s ≡ stand x → Some r ≡ stand (with_byte x (at bytes i))) (short : length line ≤ max_line) (room : max_numbers ≤ length old) where
+      next : Some r ≡ stand (scan bytes (i + 1))
+      next = q (scan bytes i) k.shows ∙ ap stand (sym (scan_more bytes i h))
 
-  -- One byte more.
-  module _ {r : Stand} (h : i < length line) (q : (x : Spelt) → s ≡ stand x → r ≡ stand (with_byte x (at line i))) (short : length line ≤ max_line) (room : max_numbers ≤ length old) where
-    next : Scanned line word (i + 1) (with_byte k.so_far (at line i))
-    next = scanned_more k.scan h
+      few : passed r < length old
+      few = omega (arith, scan_few bytes (i + 1) r next (omega arith), ap length split, length-append word bytes)
 
-    pub keeping_room : passed r < length now
-    keeping_room = rw (q k.so_far k.shows) (omega (arith, scanned_few next (omega arith), k.long))
+      pub keeping_room : passed r < length now
+      keeping_room = omega (arith, few, k.long)
 
-    pub keeping_more : {now' : List ℕ} → SaysSome word line → now' ≡ stored_at r now → length now' ≡ length now → Keeping line word old (i + 1) r now'
-    keeping_more p e n =
-        let u = q k.so_far k.shows in
-        record {
-          so_far = with_byte k.so_far (at line i);
-          shows = u;
-          scan = next;
-          kept =
-              e
-              ∙ ap (λ (t : Stand). stored_at t now) u
-              ∙ kept_more k.so_far (at line i) old now (not_wrong p next) (omega (arith, scanned_few next (omega arith))) k.kept;
-          long = n ∙ k.long;
-        }
+      pub keeping_more : {now' : List ℕ} → now' ≡ stored_at r now → length now' ≡ length now → Keeping bytes old (i + 1) r now'
+      keeping_more e n =
+          record {
+            shows = next;
+            kept =
+                e
+                ∙ kept_more (scan bytes i) (at bytes i) old now r (q (scan bytes i) k.shows) few k.kept
+                ∙ ap (λ (x : Spelt). over (begun x) old) (sym (scan_more bytes i h));
+            long = n ∙ k.long;
+          }
 
   -- At the end of the line.
-  pub keeping_all : length line ≤ i → (l : List ℕ) → Speaks line word l → now ≡ over l old
-  keeping_all end l p = k.kept ∙ ap (λ (t : List ℕ). over t old) (sym (all k.so_far (scanned_end k.scan end l p)))
+  pub keeping_all : length bytes ≤ i → (l : List ℕ) → Speaks line word l → now ≡ over l old
+  keeping_all end l p = k.kept ∙ ap (λ (t : List ℕ). over t old) (sym (all (scan bytes i) (scan_end bytes i split l end p)))
     where
       all : (x : Spelt) → Ends x l → l ≡ begun x
       all empty e = e

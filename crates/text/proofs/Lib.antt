@@ -6,7 +6,6 @@ pub mod Readings
 pub mod Spells
 pub mod Speaking
 pub mod Stands
-pub mod Beginnings
 pub mod Begun
 pub mod Scans
 pub mod Hearing

@@ -1,55 +1,46 @@
--- A line that is read byte by byte behind its word. Rests on Spells.antt and Speaking.antt.
-use mathlib.Core.List.{List, [], ◌∷◌, ◌++◌, append-nil, append_assoc}
+-- Bytes that are read one by one behind the word of a line. Rests on Spells.antt and Speaking.antt.
+use mathlib.Core.List.{List, ◌++◌}
 use mathlib.Core.Path.{◌≡◌, sym, ap, ◌∙◌, subst}
 use Prim.Native.Nat.{ℕ, ◌+◌, ◌-◌, ◌≤◌, ◌<◌}
 use native.Mathlib.Numerals.{add-one}
 use native.Mathlib.Omega.{arith}
-use lib.ListN.{length, take, drop, length-append, take-append-drop, drop_of_length-le}
+use lib.ListN.{length, take, drop, take-append-drop}
 use lib.Seq.{take-suc, take_all, length-take-le}
 use Rattle.pattern.specs.Places.{at}
-use Rattle.text.specs.Spelling.{Spelt, empty, with_byte, stand, passed}
+use Rattle.std.specs.Prelude.{Some}
+use Rattle.text.specs.Spelling.{Spelt, empty, wrong, with_byte, stand, passed}
 use Rattle.text.specs.Text.{Speaks}
-use Rattle.text.proofs.Readings.{reads, reads_none, reads_both, reads_one, Ends}
+use Rattle.text.specs.declared.lines.Stand.{Stand}
+use Rattle.text.proofs.Readings.{reads, reads_both, reads_one, reads_wrong, Ends}
 use Rattle.text.proofs.Speaking.{speaks_read}
 use Rattle.text.proofs.Spells.{spelt, ends_spelt, passed_few}
 
--- The bytes between the word and place `i` have been read.
-pub record Scanned (line word : List ℕ) (i : ℕ) (x : Spelt) : Type 0 where
-  pub bytes : List ℕ
-  pub parts : take i line ≡ word ++ bytes
-  pub read : x ≡ reads empty bytes
+-- What the first `i` bytes spell.
+abbrev pub scan : List ℕ → ℕ → Spelt
+scan bytes i = reads empty (take i bytes)
 
-pub scanned_none : {line word : List ℕ} → take (length word) line ≡ word → Scanned line word (length word) empty
-scanned_none {word = word} e = record { bytes = []; parts = e ∙ sym (append-nil word); read = sym (reads_none empty) }
+module _ (bytes : List ℕ) (i : ℕ) where
+  pub scan_more : i < length bytes → scan bytes (i + 1) ≡ with_byte (scan bytes i) (at bytes i)
+  scan_more h = rw (add-one, take-suc bytes i 0 h) (reads_one empty (take i bytes) (at bytes i))
 
-module _ {line word : List ℕ} {i : ℕ} {x : Spelt} (s : Scanned line word i x) where
-  pub scanned_more : i < length line → Scanned line word (i + 1) (with_byte x (at line i))
-  scanned_more h =
-      record {
-        bytes = s.bytes ++ (at line i ∷ []);
-        parts = ap (λ (n : ℕ). take n line) (add-one i) ∙ take-suc line i 0 h ∙ ap (λ (l : List ℕ). l ++ (at line i ∷ [])) s.parts ∙ append_assoc word s.bytes (at line i ∷ []);
-        read = ap (λ (y : Spelt). with_byte y (at line i)) s.read ∙ sym (reads_one empty s.bytes (at line i));
-      }
+  -- Each number that the reader is past has taken two bytes at least.
+  pub scan_few : (s : Stand) → Some s ≡ stand (scan bytes i) → i ≤ length bytes → passed s + passed s ≤ i - 1
+  scan_few s e h =
+      omega (arith, passed_few (scan bytes i) (take i bytes) s e (spelt (take i bytes)), length-take-le i bytes h)
 
-  -- Each number that it is past has taken two bytes at least.
-  pub scanned_few : i ≤ length line → passed (stand x) + passed (stand x) ≤ i - 1
-  scanned_few h =
-      omega
-      (arith, ap (λ (y : Spelt). passed (stand y)) s.read, passed_few (reads empty s.bytes) s.bytes (spelt s.bytes), ap length s.parts, length-append word s.bytes, length-take-le i line h)
+  -- In a line that says numbers nothing that has been read is wrong.
+  module _ {line word : List ℕ} (split : line ≡ word ++ bytes) (l : List ℕ) where
+    pub scan_right : Speaks line word l → ¬ (scan bytes i ≡ wrong)
+    scan_right p e =
+        let all : reads empty bytes ≡ reads (scan bytes i) (drop i bytes) = ap (reads empty) (sym (take-append-drop i bytes)) ∙ reads_both empty (take i bytes) (drop i bytes) in
+        subst (λ (y : Spelt). Ends y l) (all ∙ ap (λ (y : Spelt). reads y (drop i bytes)) e ∙ reads_wrong (drop i bytes)) (speaks_read bytes split p)
 
-  -- What is left is read to the end of the numbers that the line says.
-  pub scanned_left : (l : List ℕ) → Speaks line word l → Ends (reads x (drop i line)) l
-  scanned_left l p =
-      let whole : line ≡ word ++ (s.bytes ++ drop i line) = sym (take-append-drop i line) ∙ ap (λ (t : List ℕ). t ++ drop i line) s.parts ∙ append_assoc word s.bytes (drop i line) in
-      subst (λ (y : Spelt). Ends y l) (reads_both empty s.bytes (drop i line) ∙ ap (λ (y : Spelt). reads y (drop i line)) (sym s.read))
-      (speaks_read (s.bytes ++ drop i line) whole p)
+    -- At the end of the line, the line says what has been read and nothing else.
+    module _ (end : length bytes ≤ i) where
+      pub scan_end : Speaks line word l → Ends (scan bytes i) l
+      scan_end p = subst (λ (t : List ℕ). Ends (reads empty t) l) (sym (take_all i bytes end)) (speaks_read bytes split p)
 
-  -- At the end of the line, the line says what has been read and nothing else.
-  module _ (e : length line ≤ i) (l : List ℕ) where
-    pub scanned_end : Speaks line word l → Ends x l
-    scanned_end p = subst (λ (y : Spelt). Ends y l) (ap (reads x) (drop_of_length-le line e) ∙ reads_none x) (scanned_left l p)
-
-    pub scanned_says : Ends x l → Speaks line word l
-    scanned_says p =
-        let q = ends_spelt l (reads empty s.bytes) s.bytes (subst (λ (y : Spelt). Ends y l) s.read p) (spelt s.bytes) in
-        record { is = sym (take_all i line e) ∙ s.parts ∙ ap (λ (t : List ℕ). word ++ t) q.0; small = q.1 }
+      pub scan_says : Ends (scan bytes i) l → Speaks line word l
+      scan_says p =
+          let q = ends_spelt l (scan bytes i) (take i bytes) p (spelt (take i bytes)) in
+          record { is = split ∙ ap (λ (t : List ℕ). word ++ t) (sym (take_all i bytes end) ∙ q.0); small = q.1 }

@@ -7,8 +7,11 @@ use native.Mathlib.Omega.{arith}
 use lib.ListN.{length, length-append, get_or-append}
 use lib.Seq.{get_or_at}
 use Rattle.pattern.specs.Places.{at}
+use Rattle.std.specs.Prelude.{Some}
 use Rattle.text.specs.Spelling.{Spelt, empty, gap, inside, wrong, with_space, with_digit, with_byte, stand, passed}
 use Rattle.text.specs.Text.{space, max_number, decimal, spaced, Small}
+use Rattle.text.specs.declared.lines.Stand.{Stand}
+use Rattle.text.specs.declared.lines.Stand.TheVariants.{Word, Gap, Inside}
 use Rattle.text.proofs.Decimals.{decimal_digit, decimal_next}
 use Rattle.text.proofs.Readings.{reads, reads_none, reads_front, Ends}
 use Rattle.text.proofs.SpacedLaws.{spaced_none, spaced_behind, spaced_long}
@@ -94,8 +97,11 @@ ends_spelt l (inside k v) bytes e s = (s.0 ∙ ap spaced (sym e), subst Small (s
 ends_spelt l wrong bytes e s = absurd e
 
 -- A number takes two bytes at least.
-pub passed_few : (x : Spelt) (bytes : List ℕ) → Spells x bytes → passed (stand x) + passed (stand x) ≤ length bytes - 1
-passed_few empty bytes s = omega arith
-passed_few (gap l) bytes s = omega (arith, ap length s.0, length-append (spaced l) (space ∷ []), spaced_long l)
-passed_few (inside l v) bytes s = omega (arith, ap length s.0, spaced_long (l ++ (v ∷ [])), length-append l (v ∷ []))
-passed_few wrong bytes s = omega arith
+pub passed_few : (x : Spelt) (bytes : List ℕ) (r : Stand) → Some r ≡ stand x → Spells x bytes → passed r + passed r ≤ length bytes - 1
+passed_few empty bytes r e s = let u : r ≡ Word = cc in omega (arith, ap passed u)
+passed_few (gap l) bytes r e s =
+    let u : r ≡ Gap (length l) = cc in omega (arith, ap passed u, ap length s.0, length-append (spaced l) (space ∷ []), spaced_long l)
+passed_few (inside l v) bytes r e s =
+    let u : r ≡ Inside (length l) v = cc in
+    omega (arith, ap passed u, ap length s.0, spaced_long (l ++ (v ∷ [])), length-append l (v ∷ []))
+passed_few wrong bytes r e s = cc

@@ -1,8 +1,8 @@
 -- What the bytes behind a word spell, read one by one, for the contracts of the steps of `lines`. Rests on Text.antt.
-use Rattle.std.specs.Prelude.{cond, List, [], ◌∷◌, ◌++◌, ℕ, ◌+◌, ◌-◌, ◌*◌, eqb, ltb, length, set}
+use Rattle.std.specs.Prelude.{cond, List, [], ◌∷◌, ◌++◌, ℕ, ◌+◌, ◌-◌, ◌*◌, eqb, ltb, length, set, Option, Some, None}
 use Rattle.text.specs.Text.{space, max_number}
 use Rattle.text.specs.declared.lines.Stand.{Stand}
-use Rattle.text.specs.declared.lines.Stand.TheVariants.{Word, Gap, Inside, Wrong}
+use Rattle.text.specs.declared.lines.Stand.TheVariants.{Word, Gap, Inside}
 
 -- What they spell: nothing; numbers and a space behind them; numbers and behind them one that may go on; or what no line of numbers
 -- begins with.
@@ -30,30 +30,27 @@ with_digit wrong d = wrong
 unfoldable pub with_byte : Spelt → ℕ → Spelt
 with_byte x b = cond (eqb b space) (with_space x) (cond (ltb b 48) wrong (cond (ltb 57 b) wrong (with_digit x (b - 48))))
 
--- How a reader of a line stands behind it.
-abbrev pub stand : Spelt → Stand
-stand empty = Word
-stand (gap l) = Gap (length l)
-stand (inside l v) = Inside (length l) v
-stand wrong = Wrong
+-- How a reader of a line stands behind it, where numbers may begin so.
+abbrev pub stand : Spelt → Option Stand
+stand empty = Some Word
+stand (gap l) = Some (Gap (length l))
+stand (inside l v) = Some (Inside (length l) v)
+stand wrong = None
 
 -- How many numbers that reader has behind it.
 abbrev pub passed : Stand → ℕ
 passed Word = 0
 passed (Gap count) = count
 passed (Inside before value) = before
-passed Wrong = 0
 
 -- The first number, where the reader stands inside it; else the number that is given for it.
 abbrev pub first_at : Stand → ℕ → ℕ
 first_at Word first = first
 first_at (Gap count) first = first
 first_at (Inside before value) first = cond (eqb before 0) value first
-first_at Wrong first = first
 
 -- A list in which the number is stored inside which the reader stands.
 abbrev pub stored_at : Stand → List ℕ → List ℕ
 stored_at Word l = l
 stored_at (Gap count) l = l
 stored_at (Inside before value) l = set l before value
-stored_at Wrong l = l

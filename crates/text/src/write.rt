@@ -8,12 +8,9 @@ pub fn put_word(word: &[u8], out: &mut [u8], place: usize) -> usize
     requires { place + length word.now ≤ length out.old }
     ensures { Puts place word.now out.old result out.new }
 {
-    let mut i = 0;
-    while i < word.len() {
-        out[place + i] = word[i];
-        i += 1;
-    }
-    place + i
+    let end = place + word.len();
+    out[place..end].copy_from_slice(word);
+    end
 }
 
 // How many digits a number has.
@@ -22,8 +19,9 @@ fn width(n: usize) -> usize
 {
     let mut rest = n;
     let mut k = 1;
+    // No list is gone over: what is left of the number ends the loop.
     while 10 <= rest {
-        rest = rest / 10;
+        rest /= 10;
         k += 1;
     }
     k
@@ -36,13 +34,10 @@ pub fn put_number(n: usize, out: &mut [u8], place: usize) -> usize
 {
     let end = place + width(n);
     let mut rest = n;
-    let mut at = end;
-    while 10 <= rest {
-        at -= 1;
-        out[at] = (48 + rest % 10) as u8;
-        rest = rest / 10;
+    for at in (place..end).rev() {
+        out[at] = b'0' + (rest % 10) as u8;
+        rest /= 10;
     }
-    out[place] = (48 + rest) as u8;
     end
 }
 
@@ -70,10 +65,8 @@ pub fn put_numbers(numbers: &[u16], out: &mut [u8], place: usize) -> usize
     ensures { Puts place (spaced numbers.now) out.old result out.new }
 {
     let mut at = place;
-    let mut i = 0;
-    while i < numbers.len() {
-        at = put_spaced(numbers[i] as usize, out, at);
-        i += 1;
+    for n in numbers {
+        at = put_spaced(usize::from(*n), out, at);
     }
     at
 }

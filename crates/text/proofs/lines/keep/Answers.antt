@@ -1,31 +1,30 @@
--- `keep`: the bytes before place i are read; the numbers that have begun are kept.
-use native.Mathlib.Omega.{arith}
-use Rattle.text.proofs.Beginnings.{begins_long}
-use Rattle.text.proofs.Keeping.{keeping_none, keeping_few, keeping_room, keeping_more, keeping_all}
-use Rattle.text.proofs.Speaking.{speaks_begins}
+-- `keep`: the bytes before this one are read; the numbers that have begun are kept.
+use mathlib.Core.List.{◌++◌}
+use mathlib.Core.Path.{◌≡◌, sym, ◌∙◌}
+use lib.ListN.{length}
+use Rattle.listing.specs.Listing.{between}
+use Rattle.text.proofs.Keeping.{behind, keeping_none, keeping_right, keeping_room, keeping_more, keeping_all}
 use Rattle.text.proofs.lines.keep.Goals as goal
+use Rattle.text.proofs.lines.keep.Goals.{Start}
 
-pub loop-i-init : goal.loop-i-init
-loop-i-init c =
-    let line = c.args.line.now in
-    let word = c.args.word.now in
-    (begins_long line word (speaks_begins line word c.requires.2), keeping_none c.requires.2)
+-- The line is the word and the rest.
+split : (c : Start) → c.args.line.now ≡ c.args.word.now ++ between (length c.args.word.now) (length c.args.line.now) c.args.line.now
+split c = behind c.requires.2
 
-pub read_byte-at-requires : goal.read_byte-at-requires
-read_byte-at-requires c = omega (arith, keeping_few c.loop-i.invariant.1 c.loop-i.invariant.0)
+pub loop-byte-init : goal.loop-byte-init
+loop-byte-init c = keeping_none
+
+pub unwrap-at-requires : goal.unwrap-at-requires
+unwrap-at-requires c =
+    keeping_right c.loop-byte.invariant c.args.line.now c.args.word.now (split (goal.at.unwrap-at-requires c).Start) c.loop-byte-test.true c.requires.2 _ c.read_byte.ensures
 
 pub store-requires : goal.store-requires
 store-requires c =
-    keeping_room c.loop-i.invariant.1 c.loop-i-test.true c.read_byte-at.ensures c.requires.0 c.requires.1
+    keeping_room c.loop-byte.invariant c.args.line.now c.args.word.now (split (goal.at.store-requires c).Start) c.loop-byte-test.true (λ x e. sym c.unwrap-at.ensures ∙ c.read_byte.ensures x e) c.requires.0 c.requires.1
 
-pub loop-i-preserved : goal.loop-i-preserved
-loop-i-preserved c = (
-  omega arith,
-  keeping_more c.loop-i.invariant.1 c.loop-i-test.true c.read_byte-at.ensures c.requires.0 c.requires.1 c.requires.2 c.store.ensures c.store.auto.numbers,
-)
-
-pub shape_of-numbers : goal.shape_of-numbers
-shape_of-numbers c = c.loop-i.invariant.1.long
+pub loop-byte-preserved : goal.loop-byte-preserved
+loop-byte-preserved c =
+    keeping_more c.loop-byte.invariant c.args.line.now c.args.word.now (split (goal.at.loop-byte-preserved c).Start) c.loop-byte-test.true (λ x e. sym c.unwrap-at.ensures ∙ c.read_byte.ensures x e) c.requires.0 c.requires.1 c.store.ensures c.store.auto.numbers
 
 pub returns : goal.returns
-returns c = keeping_all c.loop-i.invariant.1 c.loop-i-test.false
+returns c = keeping_all c.loop-byte.invariant c.args.line.now c.args.word.now (split (goal.at.returns c).Start) c.loop-byte-test.false

@@ -1,11 +1,6 @@
--- `keep`: the bytes before place i are read; the numbers that have begun are kept.
-use Prim.Native.Nat.{◌-◌, ◌≤◌}
-use lib.ListN.{length}
+-- `keep`: the bytes before this one are read; the numbers that have begun are kept.
 use Rattle.text.proofs.Keeping.{Keeping}
 use Rattle.text.proofs.lines.keep.Given as goal
 
-abbrev pub invariant-loop-i : goal.invariant-loop-i
-invariant-loop-i l = (l.i ≤ length l.line) × Keeping l.line l.word l.initial.numbers l.i l.at l.numbers
-
-abbrev pub decreases-loop-i : goal.decreases-loop-i
-decreases-loop-i l = length l.line - l.i
+abbrev pub invariant-loop-byte : goal.invariant-loop-byte
+invariant-loop-byte l = Keeping l.rest l.initial.numbers l.byte-index l.at l.numbers

@@ -1,9 +1,6 @@
--- `put_number`: the digits behind those of `rest` are put, and last the first one.
-use Rattle.text.proofs.DigitsPut.{DigitsPut}
+-- `put_number`: the digits from this place on are put.
+use Rattle.text.proofs.DigitsPut.{DigitsBehind}
 use Rattle.text.proofs.write.put_number.Given as goal
 
-abbrev pub invariant-loop-rest : goal.invariant-loop-rest
-invariant-loop-rest l = DigitsPut l.n l.place l.initial.out l.at l.rest l.out
-
-abbrev pub decreases-loop-rest : goal.decreases-loop-rest
-decreases-loop-rest l = l.rest
+abbrev pub invariant-loop-at : goal.invariant-loop-at
+invariant-loop-at l = DigitsBehind l.n l.place l.initial.out l.at l.rest l.out
