@@ -6,10 +6,9 @@ use mathlib.Core.Path.{◌≡◌, refl, sym, ap, ◌∙◌, subst}
 use Prim.Native.Nat.{ℕ, ◌+◌, ◌<◌}
 use native.Mathlib.Decide.{ℕ_discrete}
 use native.Mathlib.Numerals.{add-one}
-use native.Mathlib.Omega.{arith}
 use lib.Dec.{T}
 use lib.ListN.{length, take}
-use lib.Seq.{take-suc, take_all}
+use lib.Seq.{take-suc}
 use Rattle.pattern.specs.Pattern.{has}
 use Rattle.pattern.specs.Places.{at}
 use Rattle.pattern.proofs.Tests.{has_append, has_left, has_right, has_here, has_cases}
@@ -36,9 +35,6 @@ has_more l k x h = (λ t. there (has_append (take k l) (at l k ∷ []) x (subst 
     back (inr z) = has_right (take k l) (at l k ∷ []) x (has_here (at l k) x [] z)
 
 module _ (f : ℕ → ℕ) (l : List ℕ) {p : ℕ → Bool} where
-  pub marking_none : WithPlaces p p f (take 0 l)
-  marking_none = record { are = λ k h. (λ t. inl t, λ s. ⊎_elim (λ t. t) (λ a. absurd a.1) s) }
-
   pub marking_more : {q q' : ℕ → Bool} (k v : ℕ) → k < length l → v ≡ f (at l k) → WithPlaces p q f (take k l) → With q q' v
       → WithPlaces p q' f (take (k + 1) l)
   marking_more {q} {q'} k v h e W M = record { are = λ j b. go j b (ℕ_discrete j v) }
@@ -58,6 +54,3 @@ module _ (f : ℕ → ℕ) (l : List ℕ) {p : ℕ → Bool} where
       go : (j : ℕ) → j < max_mark → Dec (j ≡ v) → T (q' j) ↔ Marked j (take (k + 1) l)
       go j b (yes z) = (λ t. inr (at l k, (has_more l k (at l k) h).1 (inr refl), sym e ∙ sym z), λ s. subst T (sym (ap q' z ∙ M.here)) tt)
       go j b (no n) = (λ t. wider j ((W.are j b).0 (subst T (M.others j b n) t)), λ s. subst T (sym (M.others j b n)) ((W.are j b).1 (narrower j n s)))
-
-  pub marking_all : {q : ℕ → Bool} (k : ℕ) → length l ≡ k → WithPlaces p q f (take k l) → WithPlaces p q f l
-  marking_all {q} k e W = rw (take_all k l (omega arith)) at W

@@ -8,12 +8,11 @@ use native.Mathlib.Decide.{ℕ_discrete}
 use native.Mathlib.Omega.{arith}
 use lib.Dec.{T, eqb, eqb→eq}
 use lib.ListN.{length, set, take, length-set}
-use lib.Seq.{get_or-set_same, get_or-set_other, take_all}
+use lib.Seq.{get_or-set_same, get_or-set_other}
 use Rattle.pattern.specs.Pattern.{has}
 use Rattle.pattern.specs.Places.{at}
 use Rattle.pattern.proofs.Tests.{true_T, T_true, T_false, eq-eqb}
 use Rattle.listing.specs.Limits.{max_size}
-use Rattle.judge.specs.Peel.{Flagged}
 use Rattle.judge.proofs.Marking.{has_more}
 
 -- Of the numbers below `m` that have no place those of the list `new`, and no others, are told by `max_size + 1`.
@@ -31,9 +30,6 @@ pub record Flagging (new places : List ℕ) (k : ℕ) (now : List ℕ) : Type 0 
   pub stands : (x : ℕ) → x < max_size → at places x ≡ max_size → Stands (take k new) now x
 
 module _ {new places : List ℕ} where
-  pub flagging_none : length places ≡ max_size → Flagging new places 0 places
-  flagging_none long = record { long = long; kept = λ x h u. omega arith; stands = λ x h u. inl (u, λ t. t) }
-
   module _ {k x : ℕ} {now : List ℕ} (h : k < length new) (ex : x ≡ at new k) (low : x < max_size) (F : Flagging new places k now) where
     -- Any other number stands in the longer part where it stands in the shorter.
     other : (l : List ℕ) (y : ℕ) → y ≢ x → at l y ≡ at now y → Stands (take k new) now y → Stands (take (k + 1) new) l y
@@ -68,22 +64,6 @@ module _ {new places : List ℕ} where
         go : (y : ℕ) → y < max_size → at places y ≡ max_size → Dec (y ≡ x) → Stands (take (k + 1) new) now y
         go y b u (yes z) = told y z (F.stands y b u)
         go y b u (no z) = other now y z (omega arith) (F.stands y b u)
-
-  pub flagging_all : {k : ℕ} {now : List ℕ} → k ≡ length new → Flagging new places k now → Flagged new places now
-  flagging_all {k} {now} e F =
-      record {
-        long = F.long;
-        kept = F.kept;
-        left = λ x h u. ⊎_elim (λ a. omega (arith, a.0)) (λ a. omega (arith, a.0)) (F.stands x h u);
-        told = λ x h u. tell x (whole x (F.stands x h u));
-      }
-    where
-      whole : (x : ℕ) → Stands (take k new) now x → Stands new now x
-      whole x s = rw (take_all k new (omega arith)) at s
-
-      tell : (x : ℕ) → Stands new now x → (at now x ≡ max_size + 1) ↔ T (has new x)
-      tell x (inl a) = (λ e. absurd (omega (arith, a.0)), λ t. absurd (a.1 t))
-      tell x (inr a) = (λ e. a.1, λ t. a.0)
 
 -- The test that tells them.
 pub new_told : {m : ℕ} (new places : List ℕ) (x : ℕ) → NewTold m new places → x < m → max_size ≤ at places x → (b : Bool) → eqb (at places x) (max_size + 1) ≡ b → has new x ≡ b

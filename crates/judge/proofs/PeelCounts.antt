@@ -1,10 +1,10 @@
 -- The counts of a peel: how many numbers of a list have no place, what a place given to one of them changes, and counts that are
 -- lowered one by one. Rests on specs/Peel.antt, `pattern` and `listing`.
 use mathlib.Core.List.{List}
-use mathlib.Core.Logic.{◌≢◌, ◌⊎◌, inl, inr, ⊎_elim}
-use mathlib.Core.Path.{◌≡◌, refl, sym, ap, ◌∙◌, subst}
+use mathlib.Core.Logic.{◌≢◌, ⊎_elim}
+use mathlib.Core.Path.{◌≡◌, sym, ap, ◌∙◌, subst}
 use Prim.Native.Nat.{ℕ, ◌+◌, ◌-◌, ◌≤◌, ◌<◌}
-use native.Mathlib.Decide.{ℕ_discrete, dec_le, dec_lt}
+use native.Mathlib.Decide.{dec_lt}
 use native.Mathlib.Omega.{arith}
 use lib.Dec.{T, leb, leb→le, le→leb}
 use lib.ListN.{length, set, length-set}
@@ -12,7 +12,7 @@ use lib.Seq.{get_or-set_same, get_or-set_other}
 use Rattle.pattern.specs.Pattern.{has}
 use Rattle.pattern.specs.Places.{at}
 use Rattle.pattern.specs.Rising.{Rising}
-use Rattle.pattern.proofs.Search.{None, Found, find, last_or}
+use Rattle.pattern.proofs.Search.{last_or}
 use Rattle.pattern.proofs.Tallies.{tally_next, tally_more, tally_zero, tally_same, tally_one}
 use Rattle.pattern.proofs.Tests.{T_true, T_false, has_among, among_has}
 use Rattle.listing.specs.Limits.{max_size}
@@ -47,15 +47,6 @@ module _ (places : List ℕ) where
           for_one (at l a.0) (omega (arith, ap (at places) a.2, e)),
         )
 
-    -- Where the count is not 0, some number has no place.
-    pub some_unplaced : 0 < unplaced places l → (k : ℕ) × (k < length l) × (max_size ≤ at places (at l k))
-    some_unplaced h = go (find (λ k. max_size ≤ at places (at l k)) (λ k. dec_le max_size (at places (at l k))) (length l))
-      where
-        go : Found (λ k. max_size ≤ at places (at l k)) (length l) ⊎ None (λ k. max_size ≤ at places (at l k)) (length l)
-            → (k : ℕ) × (k < length l) × (max_size ≤ at places (at l k))
-        go (inl f) = (f.number, f.in_range, f.is_so)
-        go (inr n) = absurd (omega (arith, unplaced_none (λ k u. omega (arith, n k u))))
-
 -- One of them gets the place `n`.
 module _ (places : List ℕ) (x n : ℕ) (h : x < length places) (e : max_size ≤ at places x) (b : n < max_size) where
   pub unplaced_less : {m : ℕ} (l : List ℕ) → Rising m l → T (has l x) → unplaced places l ≡ unplaced (set places x n) l + 1
@@ -81,18 +72,7 @@ searched_on {counts} {p} {from} {t} N F = record { after = omega (arith, N.after
     go u h b (yes d) = N.none u h d
     go u h b (no d) = F.none u (omega arith) b
 
--- One count changes, and does not become one before `r`.
-pub searched_set : {counts : List ℕ} {p from : ℕ} (t v r : ℕ) → t < length counts → p ≤ r → r ≤ from → (t < r → v ≢ 1) → Searched counts p from → Searched (set counts t v) p r
-searched_set {counts} {p} t v r h l b f N = record { after = l; none = λ u k d. go u k d (ℕ_discrete u t) }
-  where
-    go : (u : ℕ) → p ≤ u → u < r → Dec (u ≡ t) → at (set counts t v) u ≢ 1
-    go u k d (yes e) z = f (omega arith) (sym (get_or-set_same counts t v 0 h) ∙ ap (at (set counts t v)) (sym e) ∙ z)
-    go u k d (no e) z = N.none u k (omega arith) (sym (get_or-set_other counts t u v 0 e) ∙ z)
-
 module _ {cols : List ℕ} {c e : ℕ} {old counts : List ℕ} (S : Strikes cols c e old counts) where
-  pub struck_none : Struck cols c e old counts 0 counts
-  struck_none = record { long = S.long; less = λ i h n. absurd (omega arith); others = λ t h. refl }
-
   module _ {k : ℕ} {counts' : List ℕ} (h : k < length cols) (K : Struck cols c e old counts k counts') where
     -- The count of the next column is still what it was.
     next_same : Hit cols c e old k → at counts' (at old (at cols k)) ≡ at counts (at old (at cols k))

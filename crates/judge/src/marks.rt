@@ -22,12 +22,10 @@ pub fn hits(
     ensures { result ≡ counted (λ k. flagged marks.now (at places.now (at numbers.now k))) (length numbers.now) }
 {
     let mut sum = 0;
-    let mut k = 0;
-    while k < numbers.len() {
-        if marks[wide(places[wide(numbers[k])])] {
+    for &x in numbers {
+        if marks[wide(places[wide(x)])] {
             sum += 1;
         }
-        k += 1;
     }
     sum
 }
@@ -46,16 +44,12 @@ pub fn lay(
         × (list.new ≡ over (numbers (stands_at (flagged marks.now) (at places.now) p) m) list.old) }
 {
     let mut n = 0;
-    let mut x = 0;
-    while x < m {
-        let t = wide(places[x]);
-        if marks[t] {
-            if t != p {
-                list[n] = x as u16;
-                n += 1;
-            }
+    for (x, &place) in places[..m].iter().enumerate() {
+        let t = wide(place);
+        if marks[t] && t != p {
+            list[n] = x as u16;
+            n += 1;
         }
-        x += 1;
     }
     n
 }
@@ -70,9 +64,7 @@ pub fn mark_places(
     ensures { (length marks.new ≡ max_mark)
         × WithPlaces (flagged marks.old) (flagged marks.new) (at places.now) numbers.now }
 {
-    let mut k = 0;
-    while k < numbers.len() {
-        marks[wide(places[wide(numbers[k])])] = true;
-        k += 1;
+    for &x in numbers {
+        marks[wide(places[wide(x)])] = true;
     }
 }

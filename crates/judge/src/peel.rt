@@ -27,11 +27,7 @@ pub fn window_end(p: usize, new: &[u16], places: &[u16; Register::MAX_SIZE]) -> 
     requires { (p < max_size) × RowsLow new.now × ((x : ℕ) → T (has new.now x) → at places.now x < max_size) }
     ensures { result ≡ window_end places.now new.now p }
 {
-    let top = top_place(places, new);
-    if top < p {
-        return p + 1;
-    }
-    top + 1
+    p.max(top_place(places, new)) + 1
 }
 
 // The numbers from place p up to `end` have no place any more.
@@ -39,10 +35,8 @@ fn free(p: usize, end: usize, numbers: &[u16], places: &mut [u16; Register::MAX_
     requires { (p ≤ end) × (end ≤ length numbers.now) × ((t : ℕ) → t < end → at numbers.now t < max_size) × (length places.old ≡ max_size) }
     ensures { Freed (at numbers.now) p end places.old places.new }
 {
-    let mut t = p;
-    while t < end {
-        places[wide(numbers[t])] = NOWHERE;
-        t += 1;
+    for &x in &numbers[p..end] {
+        places[wide(x)] = NOWHERE;
     }
 }
 
@@ -51,13 +45,11 @@ fn flag(new: &[u16], places: &mut [u16; Register::MAX_SIZE])
     requires { RowsLow new.now × (length places.old ≡ max_size) }
     ensures { Flagged new.now places.old places.new }
 {
-    let mut k = 0;
-    while k < new.len() {
-        let x = wide(new[k]);
+    for &row in new {
+        let x = wide(row);
         if places[x] == NOWHERE {
             places[x] = NEW;
         }
-        k += 1;
     }
 }
 
@@ -67,12 +59,10 @@ fn rows_left(rows: &[u16], places: &[u16; Register::MAX_SIZE]) -> u16
     ensures { result ≡ unplaced places.now rows.now }
 {
     let mut sum: u16 = 0;
-    let mut k = 0;
-    while k < rows.len() {
-        if NOWHERE <= places[wide(rows[k])] {
+    for &x in rows {
+        if NOWHERE <= places[wide(x)] {
             sum += 1;
         }
-        k += 1;
     }
     sum
 }
@@ -112,10 +102,8 @@ fn count_left(
     ensures { Counted (λ t. spiked_part cs.now cr.now c new.now (at oc.now t)) places.now p end
         counts.new }
 {
-    let mut t = p;
-    while t < end {
+    for t in p..end {
         counts[t] = count_of(cs, cr, c, new, wide(oc[t]), places);
-        t += 1;
     }
 }
 
@@ -124,12 +112,10 @@ fn next_one(end: usize, counts: &[u16; Register::MAX_SIZE], from: usize) -> usiz
     requires { (from ≤ end) × (end ≤ max_size) }
     ensures { NextOne end counts.now from result }
 {
-    let mut t = from;
-    while t < end {
+    for t in from..end {
         if counts[t] == 1 {
             return t;
         }
-        t += 1;
     }
     end
 }
@@ -139,11 +125,13 @@ fn row_left(rows: &[u16], places: &[u16; Register::MAX_SIZE]) -> usize
     requires { SomeLeft places.now rows.now }
     ensures { IsLeft places.now rows.now result }
 {
-    let mut k = 0;
-    while places[wide(rows[k])] < NOWHERE {
-        k += 1;
+    for &row in rows {
+        let x = wide(row);
+        if NOWHERE <= places[x] {
+            return x;
+        }
     }
-    wide(rows[k])
+    unreachable!()
 }
 
 // The same of column y of the spiked pattern.
@@ -172,10 +160,8 @@ fn lower(counts: &mut [u16; Register::MAX_SIZE], t: usize, from: usize) -> usize
 {
     let left = counts[t] - 1;
     counts[t] = left;
-    if left == 1 {
-        if t < from {
-            return t;
-        }
+    if left == 1 && t < from {
+        return t;
     }
     from
 }
@@ -194,16 +180,14 @@ fn strike(
         × (result ≤ from) × ((p : ℕ) → HitsFrom p cols.now c end old.now → Searched counts.old p from → Searched counts.new p result) }
 {
     let mut t = from;
-    let mut k = 0;
-    while k < cols.len() {
-        let y = wide(cols[k]);
+    for &col in cols {
+        let y = wide(col);
         if y != c {
             let place = wide(old[y]);
             if place < end {
                 t = lower(counts, place, t);
             }
         }
-        k += 1;
     }
     t
 }
@@ -239,8 +223,7 @@ pub fn peel(
     flag(new, places);
     count_left(cs, cr, oc, c, new, p, end, places, counts);
     let mut t = p;
-    let mut n = p;
-    while n < end {
+    for n in p..end {
         t = next_one(end, counts, t);
         if t == end {
             return false;
@@ -254,7 +237,6 @@ pub fn peel(
             t = lower(counts, p, t);
         }
         old[y] = n as u16;
-        n += 1;
     }
     true
 }

@@ -35,11 +35,9 @@ pub fn sweep(
         → Swept m (parts m rs.now rc.now) (at or.now) col c from (flagged marks.old)
         → Swept m (parts m rs.now rc.now) (at or.now) col c to (flagged marks.new)) }
 {
-    let mut t = from;
-    while t < to {
+    for t in from..to {
         if marks[t] {
             mark_places(part(rs, rc, wide(or[t])), old, marks);
         }
-        t += 1;
     }
 }

@@ -22,7 +22,7 @@ use Rattle.register.specs.Marks.{flagged, unmarked}
 use Rattle.register.specs.Order.{Placed}
 use Rattle.register.specs.declared.marks.Marks.{Marks}
 use Rattle.register.proofs.Orders.{placed_below}
-use Rattle.register.proofs.Soundness.{columns_good, rows_good}
+use Rattle.register.proofs.Soundness.{rows_good}
 use Rattle.judge.specs.Call.{Call, call}
 use Rattle.judge.specs.Judge.{Judgeable}
 use Rattle.judge.specs.Reach.{ByRows, Swept}
@@ -112,14 +112,10 @@ module _ (c : After-window_end-end) where
       (λ k h. ap (λ (l : List Bool). flagged l k) unset_is ∙ unmarked_flags k h)
       (stored_flag unset c.args.p (omega (arith, p_small start)) unset_long))
 
-pub sweep-requires : goal.sweep-requires
-sweep-requires c =
-    let start = (goal.at.sweep-requires c).Start in
-    let windowed = (goal.at.sweep-requires c).After-window_end-end in
-    let L = (J start).sound in record {
-      rows_good = (rows_good L, L.long.order_rows_fit, L.order.rows.below);
-      window = (omega (arith, (ending windowed).after), (ending windowed).within, placed_below (cols_placed start), length-set (unset windowed) _ true ∙ unset_long windowed);
-    }
+pub sweep-requires-clause-window : goal.sweep-requires-clause-window
+sweep-requires-clause-window c =
+    let windowed = (goal.at.sweep-requires-clause-window c).After-window_end-end in
+    (omega (arith, (ending windowed).after), (ending windowed).within, placed_below c.requires.placed.1, length-set (unset windowed) _ true ∙ unset_long windowed)
 
 -- The places before the window's end have been swept.
 module _ (c : After-sweep) where
@@ -184,39 +180,12 @@ module _ (c : After-hits-met) where
       let i : a.0 < length new = omega (arith, a.2, a.3) in
       two_met (J start_of_hits_met) (at new a.0) (at new a.1) (λ z. omega (arith, a.2, (rising_once (J start_of_hits_met).new_rise).once a.0 a.1 i a.3 z)) (met_of a.0 i a.4) (met_of a.1 a.3 a.5)
 
-pub returns-then-met-eq0 : goal.returns-then-met-eq0
-returns-then-met-eq0 c =
-    let start = (goal.at.returns-then-met-eq0 c).Start in
-    record {
-      judges = judged_singular (J start) (none_met (goal.at.returns-then-met-eq0 c).After-hits-met c.if-met-eq0.true);
-      lengths = ((rows_placed start).long, c.requires.placed.3);
-    }
+pub returns-then-met-eq0-clause-judges : goal.returns-then-met-eq0-clause-judges
+returns-then-met-eq0-clause-judges c =
+    judged_singular c.requires.judgeable.0 (none_met (goal.at.returns-then-met-eq0-clause-judges c).After-hits-met c.if-met-eq0.true)
 
-pub peel-requires : goal.peel-requires
-peel-requires c =
-    let start = (goal.at.peel-requires c).Start in
-    let L = (J start).sound in record {
-      listings = (columns_good L, rows_good L, L.agree);
-      order = (L.long.order_rows_fit, L.long.order_cols_fit, L.order);
-      column = ((J start).column_below, (J start).new_rise, c.requires.placed.0);
-      placed = (c.requires.placed.3, cols_placed start, rows_placed start);
-    }
-
-pub returns-then-peel : goal.returns-then-peel
-returns-then-peel c = let k = c.peel.ensures in record {
-  judges = judged_permuted (J (goal.at.returns-then-peel c).Start) (k.told.yes c.if-peel.true);
-  lengths = (k.lengths.0, k.lengths.2);
-}
-
-pub place_all-requires : goal.place_all-requires
-place_all-requires c =
-    let L = (J (goal.at.place_all-requires c).Start).sound in
-    (L.sized.1, L.long.order_rows_fit, L.order.rows, c.peel.ensures.lengths.0)
-
-pub place_all-requires-then-met-eq1 : goal.place_all-requires-then-met-eq1
-place_all-requires-then-met-eq1 c =
-    let L = (J (goal.at.place_all-requires-then-met-eq1 c).Start).sound in
-    (L.sized.1, L.long.order_cols_fit, L.order.cols, c.peel.ensures.lengths.1)
+pub returns-then-peel-clause-judges : goal.returns-then-peel-clause-judges
+returns-then-peel-clause-judges c = judged_permuted c.requires.judgeable.0 (c.peel.ensures.told.yes c.if-peel.true)
 
 -- What is known where the ways join.
 module _ (c : Joined-met-eq1) where
@@ -252,22 +221,12 @@ module _ (c : Joined-met-eq1) where
         | else-met-eq1 w ↦ subst ColsPlaced (sym w.old-is) (cols_placed start_of_met_eq1)
       ]
 
-  counts_long : length c.if-met-eq1.counts ≡ max_size
-  counts_long = elim c.if-met-eq1.branch [
-    | then-met-eq1+else-peel w ↦ ap length w.counts-is ∙ w.peel.ensures.lengths.2
-    | else-met-eq1 w ↦ ap length w.counts-is ∙ c.requires.placed.3
-  ]
-
   met : (x : ℕ) × Met (J start_of_met_eq1) x
   met = some_met after_hits_met c.if-met-eq0.false
 
-pub sweep-requires-2 : goal.sweep-requires-2
-sweep-requires-2 c =
-    let L = (J (goal.at.sweep-requires-2 c).Start).sound in
-    record {
-      rows_good = (rows_good L, L.long.order_rows_fit, L.order.rows.below);
-      window = ((ending (goal.at.sweep-requires-2 c).After-window_end-end).within, omega arith, placed_below (cols_again (goal.at.sweep-requires-2 c).Joined-met-eq1), c.sweep.ensures.0);
-    }
+pub sweep-requires-2-clause-window : goal.sweep-requires-2-clause-window
+sweep-requires-2-clause-window c =
+    ((ending (goal.at.sweep-requires-2-clause-window c).After-window_end-end).within, omega arith, placed_below (cols_again (goal.at.sweep-requires-2-clause-window c).Joined-met-eq1), c.sweep.ensures.0)
 
 -- All places have been swept.
 module _ (c : After-sweep-2) where
@@ -290,10 +249,7 @@ eliminate-requires c =
       new_rise = ((J start).new_rise, c_before_top (J start) (met joined_met_eq1).0 (met joined_met_eq1).1 c.requires.placed.0 (rows_again joined_met_eq1));
     }
 
-pub returns : goal.returns
-returns c =
-    let joined_met_eq1 = (goal.at.returns c).Joined-met-eq1 in
-    record {
-      judges = judged_elimination (J (goal.at.returns c).Start) (met joined_met_eq1).0 (met joined_met_eq1).1 (none joined_met_eq1) c.requires.placed.0 (found (goal.at.returns c).After-sweep-2) (rows_again joined_met_eq1) c.eliminate.ensures;
-      lengths = ((rows_again joined_met_eq1).long, counts_long joined_met_eq1);
-    }
+pub returns-clause-judges : goal.returns-clause-judges
+returns-clause-judges c =
+    let joined_met_eq1 = (goal.at.returns-clause-judges c).Joined-met-eq1 in
+    judged_elimination c.requires.judgeable.0 (met joined_met_eq1).0 (met joined_met_eq1).1 (none joined_met_eq1) c.requires.placed.0 (found (goal.at.returns-clause-judges c).After-sweep-2) (rows_again joined_met_eq1) c.eliminate.ensures

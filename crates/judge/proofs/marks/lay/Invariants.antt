@@ -1,5 +1,4 @@
 -- `lay`: the numbers below x whose place is marked, but for place p, have been written.
-use Prim.Native.Nat.{◌-◌, ◌≤◌}
 use Rattle.pattern.specs.Places.{at}
 use Rattle.register.specs.Marks.{flagged}
 use Rattle.judge.specs.Reach.{stands_at}
@@ -7,7 +6,4 @@ use Rattle.judge.proofs.Numbered.{Lain}
 use Rattle.judge.proofs.marks.lay.Given as goal
 
 abbrev pub invariant-loop-x : goal.invariant-loop-x
-invariant-loop-x l = (l.x ≤ l.m) × Lain (stands_at (flagged l.marks) (at l.places) l.p) l.initial.list l.list l.n l.x
-
-abbrev pub decreases-loop-x : goal.decreases-loop-x
-decreases-loop-x l = l.m - l.x
+invariant-loop-x l = Lain (stands_at (flagged l.marks) (at l.places) l.p) l.initial.list l.list l.n l.x

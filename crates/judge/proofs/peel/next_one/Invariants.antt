@@ -1,10 +1,6 @@
 -- `next_one`: there is no count of one from the start up to t.
-use Prim.Native.Nat.{◌-◌, ◌≤◌}
 use Rattle.judge.specs.Peel.{Searched}
 use Rattle.judge.proofs.peel.next_one.Given as goal
 
 abbrev pub invariant-loop-t : goal.invariant-loop-t
-invariant-loop-t l = (l.t ≤ l.end) × Searched l.counts l.from l.t
-
-abbrev pub decreases-loop-t : goal.decreases-loop-t
-decreases-loop-t l = l.end - l.t
+invariant-loop-t l = Searched l.counts l.from l.t

@@ -86,10 +86,6 @@ free-requires c =
     let D = ending (goal.at.free-requires c).After-window_end-end in
     (omega (arith, D.after), omega (arith, D.within, c.requires.order.0), λ t h. omega (arith, c.requires.order.2.rows.below t (omega (arith, D.within)), small (goal.at.free-requires c).Start), c.requires.placed.2.long)
 
-pub flag-requires : goal.flag-requires
-flag-requires c =
-    (λ k h. omega (arith, c.requires.column.1.below k h, small (goal.at.flag-requires c).Start), c.free.ensures.long)
-
 pub count_left-requires : goal.count_left-requires
 count_left-requires c =
     let windowed = (goal.at.count_left-requires c).After-window_end-end in
@@ -110,13 +106,10 @@ module _ (c : After-next_one-t) where
   searched : Searched c.loop-n.counts c.args.p c.next_one-t.result
   searched = searched_on c.loop-n.invariant.past c.next_one-t.ensures.searched
 
-pub returns-then-t-end : goal.returns-then-t-end
-returns-then-t-end c =
-    let none = subst (Searched c.loop-n.counts c.args.p) c.if-t-end.true (searched (goal.at.returns-then-t-end c).After-next_one-t) in
-    record {
-      told = told_no (peeling_stuck c.args.or.now c.args.oc.now (given (goal.at.returns-then-t-end c).Start) (ending (goal.at.returns-then-t-end c).After-window_end-end) c.loop-n.invariant (omega arith) none);
-      lengths = (c.loop-n.invariant.placed.long, c.loop-n.invariant.moved.long, c.loop-n.invariant.left.long);
-    }
+pub returns-then-t-end-clause-told : goal.returns-then-t-end-clause-told
+returns-then-t-end-clause-told c =
+    let none = subst (Searched c.loop-n.counts c.args.p) c.if-t-end.true (searched (goal.at.returns-then-t-end-clause-told c).After-next_one-t) in
+    told_no (peeling_stuck c.args.or.now c.args.oc.now (given (goal.at.returns-then-t-end-clause-told c).Start) (ending (goal.at.returns-then-t-end-clause-told c).After-window_end-end) c.loop-n.invariant (omega arith) none)
 
 -- Its column and the place are in range.
 module _ (c : After-wide-y) where
@@ -182,9 +175,6 @@ module _ (c : After-column_left-x) where
 
   row_in : x < c.args.m
   row_in = row_below (window windowed_left).columns x (col start_of_left c.next_one-t.result) is_left.there
-
-  row_small : x < 1000
-  row_small = omega (arith, row_in, small start_of_left)
 
   -- Once the counts are right again, one more place has been taken.
   abbrev Right : List ℕ → Type 0
@@ -284,36 +274,15 @@ loop-n-preserved c =
       | else-is_new w ↦ one_more after_column_left_x (rw w.counts-is (right_struck after_strike_t (has_not after_strike_t w.if-is_new.false))) (rw (w.counts-is, w.t-is) (searched_still after_strike_t)) (omega (arith, w.t-is, before, within))
     ]
 
-pub returns : goal.returns
-returns c =
-    record {
-      told = told_yes (peeling_all c.args.or.now c.args.oc.now (given (goal.at.returns c).Start) (ending (goal.at.returns c).After-window_end-end) c.loop-n.invariant (omega (arith, c.loop-n.invariant.upto)));
-      lengths = (c.loop-n.invariant.placed.long, c.loop-n.invariant.moved.long, c.loop-n.invariant.left.long);
-    }
-
-pub offset_bounds-places-x : goal.offset_bounds-places-x
-offset_bounds-places-x c = omega (arith, row_small (goal.at.offset_bounds-places-x c).After-column_left-x)
-
-pub bounds-places-x : goal.bounds-places-x
-bounds-places-x c = row_small (goal.at.bounds-places-x c).After-column_left-x
+pub returns-clause-told : goal.returns-clause-told
+returns-clause-told c =
+    told_yes (peeling_all c.args.or.now c.args.oc.now (given (goal.at.returns-clause-told c).Start) (ending (goal.at.returns-clause-told c).After-window_end-end) c.loop-n.invariant (omega (arith, c.loop-n.invariant.upto)))
 
 pub overflow_cast-places : goal.overflow_cast-places
 overflow_cast-places c = omega (arith, end_small (goal.at.overflow_cast-places c).After-window_end-end)
 
-pub offset_bounds-places-x-in-loop-n : goal.offset_bounds-places-x-in-loop-n
-offset_bounds-places-x-in-loop-n c = omega (arith, row_small (goal.at.offset_bounds-places-x-in-loop-n c).After-column_left-x)
-
-pub bounds-places-x-in-loop-n : goal.bounds-places-x-in-loop-n
-bounds-places-x-in-loop-n c = row_small (goal.at.bounds-places-x-in-loop-n c).After-column_left-x
-
 pub overflow_cast-old : goal.overflow_cast-old
 overflow_cast-old c = omega (arith, place_low (goal.at.overflow_cast-old c).After-strike-t)
 
-pub offset_bounds-old-y : goal.offset_bounds-old-y
-offset_bounds-old-y c = omega (arith, col_in (goal.at.offset_bounds-old-y c).After-wide-y, small (goal.at.offset_bounds-old-y c).Start)
-
 pub bounds-old-y : goal.bounds-old-y
 bounds-old-y c = omega (arith, col_in (goal.at.bounds-old-y c).After-wide-y, small (goal.at.bounds-old-y c).Start)
-
-pub overflow_add-n : goal.overflow_add-n
-overflow_add-n c = omega (arith, place_low (goal.at.overflow_add-n c).After-strike-t)

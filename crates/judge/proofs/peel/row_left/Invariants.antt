@@ -1,12 +1,8 @@
--- `row_left`: from place k on there is a row that has no place.
-use Prim.Native.Nat.{ℕ, ◌-◌, ◌≤◌, ◌<◌}
-use lib.ListN.{length}
+-- `row_left`: the rows gone through have places.
+use Prim.Native.Nat.{ℕ, ◌<◌}
 use Rattle.pattern.specs.Places.{at}
 use Rattle.listing.specs.Limits.{max_size}
 use Rattle.judge.proofs.peel.row_left.Given as goal
 
-abbrev pub invariant-loop-k : goal.invariant-loop-k
-invariant-loop-k l = (j : ℕ) × (l.k ≤ j) × (j < length l.rows) × (max_size ≤ at l.places (at l.rows j))
-
-abbrev pub decreases-loop-k : goal.decreases-loop-k
-decreases-loop-k l = length l.rows - l.k
+abbrev pub invariant-loop-row : goal.invariant-loop-row
+invariant-loop-row l = (k : ℕ) → k < l.row-index → at l.places (at l.rows k) < max_size

@@ -1,6 +1,6 @@
 -- `sweep`: the places from `from` up to t have been swept.
 use mathlib.Core.Path.{◌≡◌}
-use Prim.Native.Nat.{ℕ, ◌-◌, ◌≤◌}
+use Prim.Native.Nat.{ℕ}
 use lib.ListN.{length}
 use Rattle.pattern.specs.Order.{Sound}
 use Rattle.pattern.specs.Places.{at}
@@ -12,10 +12,6 @@ use Rattle.judge.proofs.reach.sweep.Given as goal
 
 abbrev pub invariant-loop-t : goal.invariant-loop-t
 invariant-loop-t l =
-    (l.t ≤ l.to)
-    × (length l.marks ≡ 1024)
+    (length l.marks ≡ 1024)
     × ((col : ℕ → ℕ) (c : ℕ) → Placed l.m col l.old → Sound (ByRows (parts l.m l.rs l.rc)) l.m (at l.or) col → Swept l.m (parts l.m l.rs l.rc) (at l.or) col c l.from (flagged l.initial.marks)
     → Swept l.m (parts l.m l.rs l.rc) (at l.or) col c l.t (flagged l.marks))
-
-abbrev pub decreases-loop-t : goal.decreases-loop-t
-decreases-loop-t l = l.to - l.t
