@@ -1,16 +1,19 @@
 -- What stands at a place of a register in lent lists, as the writer comes to it: a row of a column, a column that a look hands
--- over. Rests on `pattern` and `listing`.
+-- over, a pair of the order. Rests on `pattern` and `listing`.
 use mathlib.Core.List.{List}
 use mathlib.Core.Path.{◌≡◌, ap, ◌∙◌}
-use Prim.Native.Nat.{ℕ, ◌+◌, ◌≤◌, ◌<◌}
+use Prim.Native.Nat.{ℕ, ◌+◌, ◌≤◌, ◌<◌, min}
 use native.Mathlib.Numerals.{add-one}
 use native.Mathlib.Omega.{arith}
-use lib.ListN.{length}
+use lib.ListN.{length, get_or, take}
+use Rattle.std.proofs.lemmas.List.{get_or-take, length-take-le}
 use Rattle.pattern.specs.Ladder.{fails, holds}
+use Rattle.pattern.specs.Order.{pairs}
 use Rattle.pattern.specs.Pattern.{column}
 use Rattle.pattern.specs.Places.{at}
 use Rattle.pattern.specs.Rising.{Rising}
 use Rattle.pattern.proofs.Each.{length_each}
+use Rattle.pattern.proofs.Pairs.{pairs_length, pair_is}
 use Rattle.listing.specs.Limits.{Sized, max_size}
 use Rattle.listing.specs.Listing.{between, part, parts, Good}
 use Rattle.listing.specs.Look.{Spans, Looked}
@@ -23,9 +26,6 @@ use Rattle.listing.proofs.Rises.{rising_few}
 pub record AtRow (rows : List ℕ) (k least : ℕ) : Type 0 where
   pub rises : Rising max_size rows
   pub fits : k < length rows → least ≤ at rows k
-
-pub at_row_none : {rows : List ℕ} → Rising max_size rows → AtRow rows 0 0
-at_row_none R = record { rises = R; fits = λ h. omega arith }
 
 module _ {rows : List ℕ} {k least : ℕ} (r : AtRow rows k least) (h : k < length rows) where
   pub row_small : at rows k < max_size
@@ -63,3 +63,24 @@ module _ {m : ℕ} {cs cr : List ℕ} (G : Good m cs cr) where
 
       up : Rising max_size rows
       up = rw is (column_rises c h)
+
+-- ---- A pair
+
+-- Place `t` of an order of size `m` in two lists, and its row and its column.
+pub record AtPair (m : ℕ) (or oc : List ℕ) (t row col : ℕ) : Type 0 where
+  pub within : t < length (pairs m or oc)
+  pub is : get_or (pairs m or oc) t (0, 0) ≡ (row, col)
+
+module _ (m : ℕ) (or oc : List ℕ) (or_fits : m ≤ length or) (oc_fits : m ≤ length oc) where
+  -- What a loop over the first `m` of both lists knows at a turn, and after the last.
+  pub at_pair : {t row col : ℕ}
+      → (t < length (take m or)) × (t < length (take m oc)) × ((d : ℕ) → row ≡ get_or (take m or) t d) × ((d : ℕ) → col ≡ get_or (take m oc) t d)
+      → AtPair m or oc t row col
+  at_pair {t} {row} {col} z =
+      let h : t < m = omega (arith, z.0, length-take-le m or or_fits) in
+      let first : row ≡ at or t = z.2 0 ∙ get_or-take m or t 0 h in
+      let second : col ≡ at oc t = z.3 0 ∙ get_or-take m oc t 0 h in
+      record { within = omega (arith, pairs_length m or oc); is = pair_is m or oc t h ∙ cc }
+
+  pub past_pairs : {n : ℕ} → n ≡ min (length (take m or)) (length (take m oc)) → length (pairs m or oc) ≤ n
+  past_pairs e = omega (arith, pairs_length m or oc, length-take-le m or or_fits, length-take-le m oc oc_fits)

@@ -4,6 +4,7 @@ use mathlib.Core.List.{List}
 use mathlib.Core.Path.{◌≡◌, sym, ap, ◌∙◌}
 use Prim.Native.Nat.{ℕ}
 use native.Mathlib.Omega.{arith}
+use Rattle.std.specs.Prelude.{Result, Ok, Err}
 use Rattle.pattern.proofs.Rungs.{unless_one}
 use Rattle.listing.proofs.Answers.{says_same}
 use Rattle.register.specs.Lent.{Lists}
@@ -14,35 +15,33 @@ use Rattle.sheet.specs.Reads.{Finds, Examines, ReadIn, read_in, ReadsAs, Reads}
 use Rattle.sheet.specs.Reply.{written, filled, Finding, found, finding}
 use Rattle.sheet.specs.Sheet.{Record, total}
 use Rattle.sheet.specs.Writes.{WrittenOut, written_out, Writes}
-use Rattle.sheet.specs.declared.Written.{Written}
-use Rattle.sheet.specs.declared.Written.TheVariants as writer
-use Rattle.sheet.specs.declared.Filled.{Filled}
-use Rattle.sheet.specs.declared.Filled.TheVariants as reader
+use Rattle.register.specs.declared.Refusal.{Refusal}
 use Rattle.sheet.specs.declared.Examined.{Examined}
-use Rattle.sheet.specs.declared.Examined.TheVariants as examined
+use Rattle.sheet.specs.declared.Fault.{Fault}
 
 -- ---- No two answers say the same
 
 apart : {A : Type 0} → ◌≡◌ {A = ℕ} 0 1 → A
 apart e = absurd (omega arith)
 
-written_same : (r r' : Written) → written r ≡ written r' → r ≡ r'
-written_same (writer.Refused a) (writer.Refused b) e = ap writer.Refused (refusal_one a b (cc e))
-written_same (writer.Refused a) (writer.Count n) e = apart (cc e)
-written_same (writer.Count n) (writer.Refused a) e = apart (cc e)
-written_same (writer.Count n) (writer.Count k) e = ap writer.Count (cc e)
+reply_same : (r r' : Result ℕ Refusal) → written r ≡ written r' → r ≡ r'
+reply_same (Err a) (Err b) e = cc (refusal_one a b (cc e))
+reply_same (Err a) (Ok n) e = apart (cc e)
+reply_same (Ok n) (Err a) e = apart (cc e)
+reply_same (Ok n) (Ok k) e = cc e
 
-filled_same : (r r' : Filled) → filled r ≡ filled r' → r ≡ r'
-filled_same (reader.Refused a) (reader.Refused b) e = ap reader.Refused (refusal_one a b (cc e))
-filled_same (reader.Refused a) (reader.Size n) e = apart (cc e)
-filled_same (reader.Size n) (reader.Refused a) e = apart (cc e)
-filled_same (reader.Size n) (reader.Size k) e = ap reader.Size (cc e)
-
-finding_same : (r r' : Examined) → finding r ≡ finding r' → r ≡ r'
-finding_same (examined.Refused a p) (examined.Refused b q) e = cc (refusal_one a b (cc e), e)
-finding_same (examined.Refused a p) (examined.Read m n s) e = apart (cc e)
-finding_same (examined.Read m n s) (examined.Refused a p) e = apart (cc e)
-finding_same (examined.Read m n s) (examined.Read m' n' s') e = cc e
+finding_same : (r r' : Result Examined Fault) → finding r ≡ finding r' → r ≡ r'
+finding_same (Err f) (Err g) e =
+    let reply : f.reply ≡ g.reply = refusal_one f.reply g.reply (cc e) in
+    let place : f.place ≡ g.place = cc e in
+    λ i. Err (record { reply = reply i; place = place i })
+finding_same (Err f) (Ok x) e = apart (cc e)
+finding_same (Ok x) (Err f) e = apart (cc e)
+finding_same (Ok x) (Ok y) e =
+    let size : x.size ≡ y.size = cc e in
+    let total : x.total ≡ y.total = cc e in
+    let sound : x.sound ≡ y.sound = cc e in
+    λ i. Ok (record { size = size i; total = total i; sound = sound i })
 
 -- ---- The writer
 
@@ -50,11 +49,11 @@ pub written_one : (m : ℕ) (l : Lists) (bytes : List ℕ) (o o' : WrittenOut) �
 written_one m l bytes =
     unless_one (λ _. unless_one (λ _. unless_one (λ _. unless_one (λ _. unless_one (λ _. unless_one (λ _ o o' e e'. e ∙ sym e'))))))
 
-pub write_sheet_determined : (m : ℕ) (l : Lists) (bytes : List ℕ) (r r' : Written) (b b' : List ℕ) → Writes m l bytes (written_out (written r) b)
+pub write_sheet_determined : (m : ℕ) (l : Lists) (bytes : List ℕ) (r r' : Result ℕ Refusal) (b b' : List ℕ) → Writes m l bytes (written_out (written r) b)
     → Writes m l bytes (written_out (written r') b') → (r ≡ r') × (b ≡ b')
 write_sheet_determined m l bytes r r' b b' f f' =
     let o = written_one m l bytes (written_out (written r) b) (written_out (written r') b') f f' in
-    (written_same r r' (ap (λ (o : WrittenOut). o.reply) o), ap (λ (o : WrittenOut). o.bytes) o)
+    (reply_same r r' (ap (λ (o : WrittenOut). o.reply) o), ap (λ (o : WrittenOut). o.bytes) o)
 
 -- ---- The part that decides
 
@@ -62,7 +61,7 @@ finds_one : (r : Read Record) (f f' : Finding) → Finds r f → Finds r f' → 
 finds_one (bad n p) f f' a b = a ∙ sym b
 finds_one (got x end) f f' a b = a.2 ∙ ap (found x.size (total x)) (says_same a.0 b.0 a.1 b.1) ∙ sym b.2
 
-pub examine_determined : (bytes : List ℕ) (r r' : Examined) → Examines bytes (finding r) → Examines bytes (finding r') → r ≡ r'
+pub examine_determined : (bytes : List ℕ) (r r' : Result Examined Fault) → Examines bytes (finding r) → Examines bytes (finding r') → r ≡ r'
 examine_determined bytes r r' f f' = finding_same r r' (finds_one (record_read bytes) (finding r) (finding r') f f')
 
 -- ---- The reader
@@ -74,8 +73,8 @@ reads_one l (got x end) o o' a b = unless_one (λ _. unless_one (λ _ o o' a b. 
 pub read_one : (l : Lists) (bytes : List ℕ) (o o' : ReadIn) → Reads l bytes o → Reads l bytes o' → o ≡ o'
 read_one l bytes = reads_one l (record_read bytes)
 
-pub read_sheet_determined : (l : Lists) (bytes : List ℕ) (r r' : Filled) (a a' : Lists) → Reads l bytes (read_in (filled r) a) → Reads l bytes (read_in (filled r') a')
+pub read_sheet_determined : (l : Lists) (bytes : List ℕ) (r r' : Result ℕ Refusal) (a a' : Lists) → Reads l bytes (read_in (filled r) a) → Reads l bytes (read_in (filled r') a')
     → (r ≡ r') × (a ≡ a')
 read_sheet_determined l bytes r r' a a' f f' =
     let o = read_one l bytes (read_in (filled r) a) (read_in (filled r') a') f f' in
-    (filled_same r r' (ap (λ (o : ReadIn). o.reply) o), ap (λ (o : ReadIn). o.lists) o)
+    (reply_same r r' (ap (λ (o : ReadIn). o.reply) o), ap (λ (o : ReadIn). o.lists) o)

@@ -1,10 +1,9 @@
 -- A number of one group or two: what it says, had from its bytes without a case for how many they are, and that one below 16,384 is such.
--- The high bit of a byte is its quotient by 128, a number that is 0 or 1.
 -- Rests on Numbers.antt and NumberBack.antt.
 use mathlib.Core.Bool.{Bool, true, false, cond}
 use mathlib.Core.List.{List, ◌∷◌, ◌++◌}
 use mathlib.Core.Path.{◌≡◌, refl, ap, ap₂, ◌∙◌}
-use Prim.Native.Nat.{ℕ, zero, suc, ◌+◌, ◌-◌, ◌*◌, ◌/◌, ◌%◌, ◌<◌, ◌≤◌}
+use Prim.Native.Nat.{ℕ, ◌+◌, ◌-◌, ◌*◌, ◌/◌, ◌%◌, ◌<◌, ◌≤◌}
 use native.Mathlib.Decide.{dec_lt}
 use native.Mathlib.Omega.{arith}
 use lib.Dec.{eqb}
@@ -14,21 +13,6 @@ use Rattle.pattern.specs.Places.{at}
 use Rattle.sheet.specs.Number.{Bytes, got, number}
 use Rattle.sheet.proofs.Numbers.{by_groups}
 use Rattle.sheet.proofs.NumberBack.{Stands, stands, number_one, number_two, number_read}
-
--- ---- Products with 0 or 1
-
-pub times_bit : (n bit : ℕ) → bit ≤ 1 → n * bit ≤ n
-times_bit n zero h = omega arith
-times_bit n (suc zero) h = omega arith
-times_bit n (suc (suc bit)) h = absurd (omega arith)
-
--- That a byte cannot be the last group of several.
-pub no_last_bit : (byte : ℕ) → byte < 256 → cond (eqb byte 0) 1 (byte / 128) ≤ 1
-no_last_bit byte h = go (eqb byte 0)
-  where
-    go : (t : Bool) → cond t 1 (byte / 128) ≤ 1
-    go true = omega arith
-    go false = omega arith
 
 -- ---- The number
 

@@ -28,10 +28,6 @@ module _ {A : Type 0} (f : A → ℕ) where
   gauged_bad (got x k) e = not_got (sym e)
   gauged_bad (bad n p) e = cc e
 
-  pub bad_gauged : {r : Read A} {n p : ℕ} → r ≡ bad n p → gauged f r ≡ bad n p
-  unfolding gauged onward
-  bad_gauged e = ap (gauged f) e
-
 gauged_as : {A : Type 0} (f g : A → ℕ) → ((x : A) → f x ≡ g x) → (r : Read A) → gauged f r ≡ gauged g r
 gauged_as f g e r = ap (λ (h : _). gauged h r) (fun_ext e)
 
@@ -59,15 +55,6 @@ pub record Partly {A : Type 0} (one : ℕ → ℕ → Read A) (after : ℕ → A
   pub rest : gauged w (many one after n s₀ p₀) ≡ gauged (λ l. k + w l) (many one after (n - j) s p)
 
 module _ {A : Type 0} {one : ℕ → ℕ → Read A} {after : ℕ → A → ℕ} {w : List A → ℕ} {n s₀ p₀ : ℕ} where
-  pub partly_none : Partly one after w n s₀ p₀ 0 0 s₀ p₀
-  partly_none =
-      record {
-        inside = omega arith;
-        rest =
-            let e : n - 0 ≡ n = omega arith in
-            rw e (gauged_as w (λ l. 0 + w l) (λ l. omega arith) (many one after n s₀ p₀));
-      }
-
   module _ {j k s p : ℕ} (i : Partly one after w n s₀ p₀ j k s p) where
     left : {m : ℕ} → n - j ≡ m → gauged w (many one after n s₀ p₀) ≡ gauged (λ l. k + w l) (many one after m s p)
     left e = i.rest ∙ ap (λ (m : ℕ). gauged (λ l. k + w l) (many one after m s p)) e

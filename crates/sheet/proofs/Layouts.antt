@@ -1,19 +1,17 @@
--- A sheet as a whole: its first fault, and how a record lies in the bytes. Rests on specs/Passes.antt, Onward.antt and
--- Readings.antt.
+-- A sheet as a whole: how a record lies in the bytes. Rests on specs/Passes.antt, Onward.antt and Readings.antt.
 use mathlib.Core.Bool.{cond}
 use mathlib.Core.List.{List}
-use mathlib.Core.Logic.{◌≢◌}
 use mathlib.Core.Path.{◌≡◌, refl, ap, ◌∙◌, subst}
 use Prim.Native.Nat.{ℕ}
 use lib.Dec.{eqb}
 use lib.ListN.{length}
 use borrow.Author.Tests.{eqb-true}
-use Rattle.pattern.proofs.Tests.{choose_same, choose_other}
+use Rattle.pattern.proofs.Tests.{choose_same}
 use Rattle.sheet.specs.Number.{Read, got, bad}
 use Rattle.sheet.specs.Passes.{LaidOut}
 use Rattle.sheet.specs.Reading.{onward, size_at, columns_at, order_at, record_read}
 use Rattle.sheet.specs.Sheet.{Record}
-use Rattle.sheet.proofs.Onward.{onward_on, onward_off}
+use Rattle.sheet.proofs.Onward.{onward_on}
 use Rattle.sheet.proofs.Readings.{thing_same, onward_got, passed}
 
 module _ (bytes : List ℕ) where
@@ -27,38 +25,21 @@ module _ (bytes : List ℕ) where
   abbrev from_columns : ℕ → ℕ → Read Record
   from_columns m p = onward (columns_at bytes m p) (from_order m)
 
-  -- ---- The first fault
-
-  pub size_fault : {n q : ℕ} → size_at bytes 0 ≡ bad n q → record_read bytes ≡ bad n q
-  unfolding record_read
-  size_fault e = onward_off from_columns e
-
   module _ {m p : ℕ} (size : size_at bytes 0 ≡ got m p) where
     size_on : record_read bytes ≡ from_columns m p
     unfolding record_read
     size_on = onward_on from_columns size
 
-    pub columns_fault : {n q : ℕ} → columns_at bytes m p ≡ bad n q → record_read bytes ≡ bad n q
-    columns_fault e = size_on ∙ onward_off (from_order m) e
-
     module _ {P : List (List ℕ)} {q : ℕ} (columns : columns_at bytes m p ≡ got P q) where
       columns_on : record_read bytes ≡ from_order m P q
       columns_on = size_on ∙ onward_on (from_order m) columns
-
-      pub order_fault : {n r : ℕ} → order_at bytes m q ≡ bad n r → record_read bytes ≡ bad n r
-      order_fault e = columns_on ∙ onward_off (at_end m P) e
 
       module _ {pairs : List (ℕ × ℕ)} {end : ℕ} (order : order_at bytes m q ≡ got pairs end) where
         order_on : record_read bytes ≡ at_end m P pairs end
         order_on = columns_on ∙ onward_on (at_end m P) order
 
-        pub surplus : end ≢ length bytes → record_read bytes ≡ bad 12 end
-        surplus n = order_on ∙ choose_other end (length bytes) (got (record { size = m; columns = P; order = pairs }) end) (bad 12 end) n
-
         pub whole : end ≡ length bytes → record_read bytes ≡ got (record { size = m; columns = P; order = pairs }) end
         whole e = order_on ∙ choose_same end (length bytes) (got (record { size = m; columns = P; order = pairs }) end) (bad 12 end) e
-
-  -- ---- A record in the bytes
 
   pub laid_out_read : {x : Record} {columns order : ℕ} → LaidOut bytes x columns order → record_read bytes ≡ got x (length bytes)
   laid_out_read l = whole l.size_read l.columns_read l.order_read refl

@@ -8,8 +8,7 @@ pub mod Sizes
 pub mod SheetPuts
 pub mod Writing
 pub mod Tests
-pub mod Told
-pub mod Ranges
+pub mod Handed
 pub mod Onward
 pub mod Gauges
 pub mod Layouts

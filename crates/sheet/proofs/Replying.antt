@@ -1,26 +1,18 @@
--- From what the bytes alone decide to what the reader replies, case by case. Rests on specs/Reads.antt and Lefts.antt.
-use mathlib.Core.Bool.{Bool, true, false}
+-- From what the bytes alone decide to what the reader replies. Rests on specs/Reads.antt and Lefts.antt.
+use mathlib.Core.Bool.{Bool, true}
 use mathlib.Core.Path.{◌≡◌, refl, sym, ◌∙◌, subst, subst₂}
 use Prim.Native.Nat.{ℕ}
 use native.Mathlib.Omega.{arith}
-use Rattle.pattern.specs.Ladder.{fails, holds}
+use Rattle.pattern.specs.Ladder.{holds}
 use Rattle.listing.specs.Says.{Says}
 use Rattle.register.specs.Takes.{Takes}
 use Rattle.register.specs.Lent.{Lists}
 use Rattle.sheet.specs.Number.{Read, got, bad}
 use Rattle.sheet.specs.Passes.{thing, Got, blank}
 use Rattle.sheet.specs.Reads.{Finds, ReadIn, read_in, Accepts, ReadsAs}
-use Rattle.sheet.specs.Reply.{REFUSED, ACCEPTED, Finding, refused, found}
+use Rattle.sheet.specs.Reply.{ACCEPTED, Finding, found}
 use Rattle.sheet.specs.Sheet.{Record, total, SoundRecord, held_record}
 use Rattle.sheet.proofs.Lefts.{got_is, thing_is}
-
--- ---- Refused
-
-pub reads_refused : (l : Lists) (r : Read Record) {f : Finding} {n p : ℕ} → f ≡ refused n p → Finds r f → ReadsAs l r (read_in (REFUSED n) l)
-reads_refused l (bad k q) e f = cc (e, f)
-reads_refused l (got x end) e f = let z : ◌≡◌ {A = ℕ} 0 1 = cc (e, f.2) in absurd (omega arith)
-
--- ---- Read
 
 -- What was found is of a record that was read.
 pub record Found (r : Read Record) (m n : ℕ) (answer : Bool) : Type 0 where
@@ -48,18 +40,10 @@ module _ {r : Read Record} {m n : ℕ} {answer : Bool} (F : Found r m n answer) 
   room : Takes m n l → Takes x.size (total x) l
   room t = subst₂ (λ (a b : ℕ). Takes a b l) F.size F.entries t
 
-  -- The lists are short.
-  pub reads_short : ¬ Takes m n l → ReadsAs l r (read_in (REFUSED 2) l)
-  reads_short t = accepts (fails (λ u. t (subst₂ (λ (a b : ℕ). Takes a b l) (sym F.size) (sym F.entries) u)) refl)
-
   -- They have room, and the record may be put into them.
   pub reads_room : Takes m n l → Got blank r × Takes (thing blank r).size (total (thing blank r)) l
   reads_room t = (got_is blank F.is, rw (thing_is blank F.is) (room t))
 
-  -- But its order is unsound.
-  pub reads_unsound : Takes m n l → answer ≡ false → ReadsAs l r (read_in (REFUSED 5) l)
-  reads_unsound t a = accepts (holds (room t) (fails (F.sound.no a) refl))
-
-  -- Or it is sound, and the lists hold the record.
+  -- And its order is sound: the lists hold the record.
   pub reads_accepted : {l' : Lists} → Takes m n l → answer ≡ true → l' ≡ held_record (thing blank r) l → ReadsAs l r (read_in (ACCEPTED m) l')
   reads_accepted t a h = accepts (holds (room t) (holds (F.sound.yes a) (cc (F.size, h, thing_is blank F.is))))

@@ -1,4 +1,4 @@
--- A whole sheet put part by part: the size, the columns, the order. Each part has room. Rests on Sizes.antt, `listing` and
+-- A whole sheet put part by part: the size, the columns, the order. Rests on Sizes.antt, `listing` and
 -- `text`.
 use mathlib.Core.List.{List}
 use mathlib.Core.Path.{◌≡◌}
@@ -21,9 +21,6 @@ module _ (x : Record) (old : List ℕ) (room : length (sheet x) ≤ length old) 
     columns_room = omega (arith, sheet_length x, p.after, puts_length size_room p)
 
     module _ {j : ℕ} {newer : List ℕ} (q : Puts i (columns_bytes x.columns) new j newer) where
-      pub order_room : j + length (order_bytes x.order) ≤ length newer
-      order_room = omega (arith, sheet_length x, p.after, q.after, puts_length size_room p, puts_length columns_room q)
-
       pub all_put : {k : ℕ} {newest : List ℕ} → Puts j (order_bytes x.order) newer k newest
           → (k ≡ length (sheet x)) × (newest ≡ over (sheet x) old)
       all_put r = let all = puts_both (omega arith) p (puts_both (omega (arith, columns_room)) q r) in (omega (arith, all.after), all.stand)

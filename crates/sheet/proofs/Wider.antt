@@ -1,6 +1,6 @@
 -- A limit may be raised: a number, a row, a pair or rows that were read are read the same where more would pass.
--- Rests on Onward.antt, Ranges.antt and Readings.antt.
-use mathlib.Core.Bool.{Bool}
+-- Rests on Onward.antt and Readings.antt.
+use mathlib.Core.Bool.{Bool, true}
 use mathlib.Core.List.{List, ◌∷◌}
 use mathlib.Core.Path.{◌≡◌, sym, ap, ◌∙◌}
 use Prim.Native.Nat.{ℕ, zero, suc, ◌+◌, ◌≤◌, ◌<◌}
@@ -12,7 +12,6 @@ use Rattle.sheet.specs.Passes.{Short}
 use Rattle.sheet.specs.Reading.{onward, number_that, many, row_at, member_at, pair_at}
 use Rattle.sheet.specs.Sheet.{past}
 use Rattle.sheet.proofs.Onward.{onward_on, pair_both}
-use Rattle.sheet.proofs.Ranges.{number_passes}
 use Rattle.sheet.proofs.Readings.{many_next, number_that_got, row_got, member_got, pair_got}
 
 -- Many things are read the same where one is.
@@ -27,6 +26,10 @@ many_same {A} one one' after same (suc n) s p {L} {end} e =
     ∙ ap (λ (l : List A). got l end) (sym b.is)
 
 module _ (bytes : List ℕ) where
+  number_passes : (test : ℕ → Bool) (reply p : ℕ) {v next : ℕ} → number bytes p ≡ got v next → test v ≡ true → number_that bytes test reply p ≡ got v next
+  unfolding number_that onward
+  number_passes test reply p e t = rw (e, t)
+
   -- A number that passed a test before is read as it is without the test.
   pub number_again : (test : ℕ → Bool) (reply p : ℕ) {v w next k : ℕ} → number_that bytes test reply p ≡ got w k → number bytes p ≡ got v next
       → number_that bytes test reply p ≡ got v next
@@ -40,7 +43,7 @@ module _ (bytes : List ℕ) where
   row_below : (m least p : ℕ) {gap next : ℕ} → number bytes p ≡ got gap next → least + gap < m → row_at bytes m least p ≡ got (least + gap) next
   unfolding row_at
   row_below m least p {gap} e h =
-      onward_on (λ gap next. got (least + gap) next) (number_passes bytes (λ gap. ltb (least + gap) m) 11 p e (lt-ltb (least + gap) m h))
+      onward_on (λ gap next. got (least + gap) next) (number_passes (λ gap. ltb (least + gap) m) 11 p e (lt-ltb (least + gap) m h))
 
   -- From the limit `m` to the limit `n`.
   module _ (m n : ℕ) (wide : m ≤ n) where
@@ -53,7 +56,7 @@ module _ (bytes : List ℕ) where
     rows_wider = many_same (row_at bytes m) (row_at bytes n) past (λ s p r next. row_wider s p)
 
     member_wider : (p : ℕ) {v next : ℕ} → member_at bytes m p ≡ got v next → member_at bytes n p ≡ got v next
-    member_wider p {v} e = let g = member_got bytes m p e in number_passes bytes (λ v. ltb v n) 11 p g.0 (lt-ltb v n (omega (arith, g.1)))
+    member_wider p {v} e = let g = member_got bytes m p e in number_passes (λ v. ltb v n) 11 p g.0 (lt-ltb v n (omega (arith, g.1)))
 
     pub pair_wider : (t p : ℕ) {x : ℕ × ℕ} {next : ℕ} → pair_at bytes m t p ≡ got x next → pair_at bytes n t p ≡ got x next
     pair_wider t p e =

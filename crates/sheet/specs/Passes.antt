@@ -1,11 +1,11 @@
 -- What one pass over a sheet finds, for the contracts of the steps of reading. Rests on Reading.antt and `register`.
-use Rattle.std.specs.Prelude.{List, [], ◌≡◌, ℕ, ◌<◌, length}
+use Rattle.std.specs.Prelude.{List, [], ◌≡◌, ℕ, ◌<◌, length, Result, Ok, Err}
 use Rattle.register.specs.Reply as register
 use Rattle.sheet.specs.Number.{Read, got, bad, number}
 use Rattle.sheet.specs.Reading.{onward, size_at, columns_at, order_at, record_read}
 use Rattle.sheet.specs.Sheet.{Record, total}
+use Rattle.sheet.specs.declared.Fault.{Fault}
 use Rattle.sheet.specs.declared.scan.Scanned.{Scanned}
-use Rattle.sheet.specs.declared.scan.Scanned.TheVariants as scanned
 
 -- What is read, by a number that is made of it.
 unfoldable pub gauged : {A : Type 0} → (A → ℕ) → Read A → Read ℕ
@@ -39,7 +39,6 @@ pub record LaidOut (bytes : List ℕ) (x : Record) (columns order : ℕ) : Type 
   pub order_read : order_at bytes x.size order ≡ got x.order (length bytes)
 
 -- The first pass: the fault, or the size, the total and these two places.
-abbrev pub Scans : List ℕ → Scanned → Type 0
-Scans bytes (scanned.Fault reply place) = record_read bytes ≡ bad (register.number reply) place
-Scans bytes (scanned.Read size entries columns order) =
-    (x : Record) × LaidOut bytes x columns order × (size ≡ x.size) × (entries ≡ total x)
+abbrev pub Scans : List ℕ → Result Scanned Fault → Type 0
+Scans bytes (Ok s) = (x : Record) × LaidOut bytes x s.columns s.order × (s.size ≡ x.size) × (s.total ≡ total x)
+Scans bytes (Err fault) = record_read bytes ≡ bad (register.number fault.reply) fault.place

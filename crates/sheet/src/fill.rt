@@ -21,14 +21,12 @@ fn fill_rows(bytes: &[u8], place: usize, n: u32, entries: &mut [u16], k: usize) 
 {
     let mut at = place;
     let mut least = 0;
-    let mut i = 0;
-    while i < n {
+    for entry in &mut entries[k..k + n as usize] {
         let gap = known(bytes, at);
         let r = least + gap.value;
-        entries[k + i as usize] = r as u16;
+        *entry = r as u16;
         least = r + 1;
         at = gap.next;
-        i += 1;
     }
     at
 }
@@ -42,13 +40,11 @@ fn fill_columns(bytes: &[u8], place: usize, m: u32, cs: &mut [u16], cr: &mut [u1
 {
     let mut at = place;
     let mut entries: u32 = 0;
-    let mut c = 0;
-    while c < m {
+    for c in 0..m {
         cs[c as usize] = entries as u16;
         let n = known(bytes, at);
         at = fill_rows(bytes, n.next, n.value, cr, entries as usize);
-        entries = entries + n.value;
-        c += 1;
+        entries += n.value;
     }
     cs[m as usize] = entries as u16;
     at
@@ -61,13 +57,11 @@ fn fill_order(bytes: &[u8], place: usize, m: u32, rows: &mut [u16], cols: &mut [
         × (cols.new ≡ over (seconds (thing [] (order_at bytes.now m place))) cols.old) }
 {
     let mut at = place;
-    let mut t = 0;
-    while t < m {
+    for t in 0..m {
         let pair = known_pair(bytes, at);
         rows[t as usize] = pair.row as u16;
         cols[t as usize] = pair.column as u16;
         at = pair.next;
-        t += 1;
     }
 }
 

@@ -6,43 +6,42 @@ ghost use Rattle.sheet.specs.Passes.{Got, Short};
 ghost use Rattle.sheet.specs.Reading.{number_that, size_at, row_at, count_at, pair_at};
 ghost use Rattle.sheet.specs.Reply.{told};
 
-use crate::number::{Number, Step, few_groups, read_number};
+use crate::Fault;
+use crate::number::{Step, few_groups, read_number};
 use register::{Refusal, Register};
 
 // A number below the limit, or a range fault. The order's rows and columns are such, with the size as the limit.
-pub fn below(bytes: &[u8], place: usize, limit: u32) -> Number
+#[tactic(auto, unfolding(crate::specs::Reading::number_that, crate::specs::Reading::onward))]
+pub fn below(bytes: &[u8], place: usize, limit: u32) -> Result<Step, Fault>
     ensures { told result ≡ number_that bytes.now (λ (v : ℕ). ltb v limit) 11 place }
 {
-    let read = read_number(bytes, place);
-    if let Number::Value { value, next } = read {
-        if limit <= value {
-            return Number::Fault {
-                reply: Refusal::SheetRange,
-                place,
-            };
-        }
+    let read = read_number(bytes, place)?;
+    if limit <= read.value {
+        return Err(Fault {
+            reply: Refusal::SheetRange,
+            place,
+        });
     }
-    read
+    Ok(read)
 }
 
 // The size.
-pub fn size(bytes: &[u8]) -> Number
+#[tactic(auto, unfolding(crate::specs::Reading::number_that, crate::specs::Reading::onward))]
+pub fn size(bytes: &[u8]) -> Result<Step, Fault>
     ensures { told result ≡ size_at bytes.now 0 }
 {
-    let read = read_number(bytes, 0);
-    if let Number::Value { value, next } = read {
-        if value == 0 || Register::MAX_SIZE < value as usize {
-            return Number::Fault {
-                reply: Refusal::Size,
-                place: 0,
-            };
-        }
+    let read = read_number(bytes, 0)?;
+    if read.value == 0 || Register::MAX_SIZE < read.value as usize {
+        return Err(Fault {
+            reply: Refusal::Size,
+            place: 0,
+        });
     }
-    read
+    Ok(read)
 }
 
 // A column's count, after so many entries of the columns before it.
-pub fn count(bytes: &[u8], place: usize, m: u32, entries: u32) -> Number
+pub fn count(bytes: &[u8], place: usize, m: u32, entries: u32) -> Result<Step, Fault>
     requires { (m ≤ max_size) × (entries ≤ max_total) }
     ensures { told result ≡ count_at bytes.now m entries place }
 {
@@ -54,20 +53,20 @@ pub fn count(bytes: &[u8], place: usize, m: u32, entries: u32) -> Number
 }
 
 // A row of a column, which is at least `least`.
-pub fn row(bytes: &[u8], place: usize, m: u32, least: u32) -> Number
+#[tactic(auto, unfolding(crate::specs::Reading::row_at, crate::specs::Reading::number_that, crate::specs::Reading::onward))]
+pub fn row(bytes: &[u8], place: usize, m: u32, least: u32) -> Result<Step, Fault>
     requires { (m ≤ max_size) × (least ≤ m) }
     ensures { told result ≡ row_at bytes.now m least place }
 {
-    match below(bytes, place, m - least) {
-        Number::Value { value, next } => Number::Value {
-            value: least + value,
-            next,
-        },
-        Number::Fault { reply, place } => Number::Fault { reply, place },
-    }
+    let gap = below(bytes, place, m - least)?;
+    Ok(Step {
+        value: least + gap.value,
+        next: gap.next,
+    })
 }
 
 // The number that begins at this place, where it is known to have one group or two.
+#[tactic(auto, using(crate::proofs::FewGroups::few_groups, crate::proofs::FewGroups::few_read, crate::proofs::FewGroups::last_read))]
 pub fn known(bytes: &[u8], place: usize) -> Step
     requires { Short bytes.now place }
     ensures { number bytes.now place ≡ got result.value result.next }
@@ -90,6 +89,7 @@ pub struct Pair {
 }
 
 // The row and the column of one place of the order, where they are known to be no fault.
+#[tactic(auto, unfolding(crate::specs::Reading::pair_at, crate::specs::Reading::number_that, crate::specs::Reading::onward))]
 pub fn known_pair(bytes: &[u8], place: usize) -> Pair
     requires { Got {A = ℕ × ℕ} (0, 0) (pair_at bytes.now max_size 0 place) }
     ensures { pair_at bytes.now max_size 0 place ≡ got (result.row, result.column) result.next }

@@ -10,7 +10,7 @@ mod put;
 mod scan;
 mod sound;
 
-ghost use Rattle.std.specs.Prelude.{◌<◌};
+ghost use Rattle.std.specs.Prelude.{◌≡◌, ◌<◌};
 ghost use Rattle.register.specs.Lent.{lists};
 ghost use Rattle.sheet.specs.Reads.{Examines, read_in, Reads};
 ghost use Rattle.sheet.specs.Reply.{written, filled, finding};
@@ -19,43 +19,39 @@ ghost use Rattle.sheet.specs.Writes.{written_out, Writes};
 use crate::fill::fill;
 use crate::measure::measure;
 use crate::put::put_sheet;
-use crate::scan::{Scanned, scan};
+use crate::scan::scan;
 use crate::sound::sound;
 use register::room::takes;
-use register::{Checked, Refusal, Register};
+use register::{Refusal, Register};
 
-// What the writer replies: a refusal, or the byte count.
+// A fault of a sheet: its refusal, and the place at which the number at fault begins.
 #[derive(Drop)]
-pub enum Written {
-    Refused(Refusal),
-    Count(usize),
+pub struct Fault {
+    pub reply: Refusal,
+    pub place: usize,
 }
 
-// What the reader replies: a refusal, or the size of the register that the lists now hold.
-#[derive(Drop)]
-pub enum Filled {
-    Refused(Refusal),
-    Size(usize),
+// Where the place is not asked for.
+impl From<Fault> for Refusal {
+    ghost from_gives = { λ fault refusal. refusal ≡ fault.reply };
+
+    fn from(fault: Fault) -> Refusal {
+        fault.reply
+    }
 }
 
-// What the bytes of a sheet alone decide: a refusal and the place at which the number at fault begins, or what the sheet is of.
+// What the bytes of a sheet alone decide where they have no fault.
 #[derive(Drop)]
-pub enum Examined {
-    Refused {
-        reply: Refusal,
-        place: usize,
-    },
-    Read {
-        size: usize,
-        total: usize,
-        sound: bool,
-    },
+pub struct Examined {
+    pub size: usize,
+    pub total: usize,
+    pub sound: bool,
 }
 
 // No sheet is longer: the size, the counts, the entries and the order's rows and columns have two bytes each at most.
 const LONGEST: usize = 30002;
 
-// Writes the sheet of a register to the head of the bytes, after checks 1 to 5 and 8.
+// Writes the sheet of a register to the head of the bytes, after checks 1 to 5 and 8; replies the byte count.
 pub fn write_sheet(
     size: usize,
     col_starts: &[u16],
@@ -65,50 +61,38 @@ pub fn write_sheet(
     order_rows: &[u16],
     order_cols: &[u16],
     bytes: &mut [u8],
-) -> Written
+) -> Result<usize, Refusal>
     ensures { Writes size
         (lists col_starts.now col_rows.now row_starts.now row_cols.now
         order_rows.now order_cols.now)
         bytes.old
         (written_out (written result) bytes.new) }
 {
-    let checked = (Register { size }).check(
+    (Register { size }).check(
         col_starts, col_rows, row_starts, row_cols, order_rows, order_cols,
-    );
-    match checked {
-        Checked::Refused(refusal) => Written::Refused(refusal),
-        Checked::Sound => {
-            if bytes.len() < LONGEST {
-                let count = measure(size, col_starts, col_rows, order_rows, order_cols);
-                if bytes.len() < count {
-                    return Written::Refused(Refusal::NoRoom);
-                }
-            }
-            Written::Count(put_sheet(size, col_starts, col_rows, order_rows, order_cols, bytes))
+    )?;
+    if bytes.len() < LONGEST {
+        let count = measure(size, col_starts, col_rows, order_rows, order_cols);
+        if bytes.len() < count {
+            return Err(Refusal::NoRoom);
         }
     }
+    Ok(put_sheet(size, col_starts, col_rows, order_rows, order_cols, bytes))
 }
 
 // What the bytes decide. Nothing is written.
-pub fn examine(bytes: &[u8]) -> Examined
+pub fn examine(bytes: &[u8]) -> Result<Examined, Fault>
     ensures { Examines bytes.now (finding result) }
 {
-    match scan(bytes) {
-        Scanned::Fault { reply, place } => Examined::Refused { reply, place },
-        Scanned::Read {
-            size,
-            total,
-            columns,
-            order,
-        } => Examined::Read {
-            size: size as usize,
-            total: total as usize,
-            sound: sound(bytes, size, columns, order),
-        },
-    }
+    let read = scan(bytes)?;
+    Ok(Examined {
+        size: read.size as usize,
+        total: read.total as usize,
+        sound: sound(bytes, read.size, read.columns, read.order),
+    })
 }
 
-// Reads a sheet into the lists, which change only where it is accepted.
+// Reads a sheet into the lists, which change only where it is accepted; replies the size of the register that they then hold.
 pub fn read_sheet(
     bytes: &[u8],
     col_starts: &mut [u16],
@@ -117,7 +101,7 @@ pub fn read_sheet(
     row_cols: &mut [u16],
     order_rows: &mut [u16],
     order_cols: &mut [u16],
-) -> Filled
+) -> Result<usize, Refusal>
     ensures { Reads
         (lists col_starts.old col_rows.old row_starts.old row_cols.old
         order_rows.old order_cols.old)
@@ -126,21 +110,17 @@ pub fn read_sheet(
         (lists col_starts.new col_rows.new row_starts.new row_cols.new
         order_rows.new order_cols.new)) }
 {
-    match examine(bytes) {
-        Examined::Refused { reply, place } => Filled::Refused(reply),
-        Examined::Read { size, total, sound } => {
-            if !takes(
-                size, total, col_starts, col_rows, row_starts, row_cols, order_rows, order_cols,
-            ) {
-                return Filled::Refused(Refusal::ShortList);
-            }
-            if !sound {
-                return Filled::Refused(Refusal::OrderUnsound);
-            }
-            fill(
-                bytes, col_starts, col_rows, row_starts, row_cols, order_rows, order_cols,
-            );
-            Filled::Size(size)
-        }
+    let Examined { size, total, sound } = examine(bytes)?;
+    if !takes(
+        size, total, col_starts, col_rows, row_starts, row_cols, order_rows, order_cols,
+    ) {
+        return Err(Refusal::ShortList);
     }
+    if !sound {
+        return Err(Refusal::OrderUnsound);
+    }
+    fill(
+        bytes, col_starts, col_rows, row_starts, row_cols, order_rows, order_cols,
+    );
+    Ok(size)
 }

@@ -16,12 +16,10 @@ fn measure_rows(rows: &[u16]) -> usize
 {
     let mut n = 0;
     let mut least = 0;
-    let mut k = 0;
-    while k < rows.len() {
-        let r = rows[k] as u32;
+    for row in rows {
+        let r = *row as u32;
         n += width(r - least);
         least = r + 1;
-        k += 1;
     }
     n
 }
@@ -32,11 +30,9 @@ fn measure_columns(size: usize, cs: &[u16], cr: &[u16]) -> usize
     ensures { result ≡ length (columns_bytes (parts size cs.now cr.now)) }
 {
     let mut n = 0;
-    let mut c = 0;
-    while c < size {
+    for c in 0..size {
         let rows = (Register { size }).look(cs, cr, c);
         n += width(rows.len() as u32) + measure_rows(rows);
-        c += 1;
     }
     n
 }
@@ -47,10 +43,8 @@ fn measure_order(size: usize, or: &[u16], oc: &[u16]) -> usize
     ensures { result ≡ length (order_bytes (pairs size or.now oc.now)) }
 {
     let mut n = 0;
-    let mut t = 0;
-    while t < size {
-        n += width(or[t] as u32) + width(oc[t] as u32);
-        t += 1;
+    for (row, col) in or[..size].iter().zip(&oc[..size]) {
+        n += width(*row as u32) + width(*col as u32);
     }
     n
 }

@@ -1,20 +1,14 @@
 // The seven-bit number: read at a place of the bytes, measured, and put there.
-ghost use Rattle.std.specs.Prelude.{cond, ◌≡◌, ◌+◌, ◌*◌, ◌/◌, ◌%◌, ◌≤◌, ◌<◌, eqb, length};
+ghost use Rattle.std.specs.Prelude.{cond, ◌≡◌, ◌+◌, ◌*◌, ◌/◌, ◌%◌, ◌≤◌, ◌<◌, eqb, length, MatchResult};
 ghost use Rattle.pattern.specs.Places.{at};
 ghost use Rattle.text.specs.Puts.{Puts};
-ghost use Rattle.sheet.specs.Number.{max_number, groups, number, ended};
+ghost use Rattle.sheet.specs.Number.{bad, max_number, groups, number, ended};
 ghost use Rattle.sheet.specs.Reply.{told};
 
+use crate::Fault;
 use register::Refusal;
 
-// A number and the place after it, or the fault and the place at which the number begins. Numbers reach 2,097,151.
-#[derive(Drop)]
-pub enum Number {
-    Value { value: u32, next: usize },
-    Fault { reply: Refusal, place: usize },
-}
-
-// A number that was read, and the place after it.
+// A number that was read, and the place after it. Numbers reach 2,097,151.
 #[derive(Drop)]
 pub struct Step {
     pub value: u32,
@@ -22,54 +16,58 @@ pub struct Step {
 }
 
 // A second or third group ends the number that begins at this place.
-fn ended(group: u32, value: u32, place: usize, next: usize) -> Number
+#[tactic(auto, unfolding(crate::specs::Number::ended))]
+fn ended(group: u32, value: u32, place: usize, next: usize) -> Result<Step, Fault>
     ensures { told result ≡ ended place group value next }
 {
     if group == 0 {
-        return Number::Fault {
+        return Err(Fault {
             reply: Refusal::SheetNumber,
             place,
-        };
+        });
     }
-    Number::Value { value, next }
+    Ok(Step { value, next })
+}
+
+// The byte at one place of the number that begins at another: the sheet is cut where the bytes end before it.
+fn byte(bytes: &[u8], begin: usize, place: usize) -> Result<u32, Fault>
+    ensures { MatchResult result
+        (λ value. (place < length bytes.now) × (value ≡ at bytes.now place) × (value < 256))
+        (λ fault. (length bytes.now ≤ place) × (told (Err fault) ≡ bad 9 begin)) }
+{
+    if bytes.len() <= place {
+        return Err(Fault {
+            reply: Refusal::SheetCut,
+            place: begin,
+        });
+    }
+    Ok(bytes[place] as u32)
 }
 
 // The number that begins at this place, group by group.
-fn read_groups(bytes: &[u8], place: usize) -> Number
+#[tactic(auto, unfolding(crate::specs::Number::number, crate::specs::Number::byte))]
+fn read_groups(bytes: &[u8], place: usize) -> Result<Step, Fault>
     ensures { told result ≡ number bytes.now place }
 {
-    let cut = Number::Fault {
-        reply: Refusal::SheetCut,
-        place,
-    };
-    if bytes.len() <= place {
-        return cut;
-    }
-    let a = bytes[place] as u32;
+    let a = byte(bytes, place, place)?;
     if a < 128 {
-        return Number::Value {
+        return Ok(Step {
             value: a,
             next: place + 1,
-        };
+        });
     }
-    if bytes.len() <= place + 1 {
-        return cut;
-    }
-    let b = bytes[place + 1] as u32;
+    let b = byte(bytes, place, place + 1)?;
     if b < 128 {
         return ended(b, a - 128 + 128 * b, place, place + 2);
     }
-    if bytes.len() <= place + 2 {
-        return cut;
-    }
-    let c = bytes[place + 2] as u32;
+    let c = byte(bytes, place, place + 2)?;
     if c < 128 {
         return ended(c, a - 128 + 128 * (b - 128) + 16384 * c, place, place + 3);
     }
-    Number::Fault {
+    Err(Fault {
         reply: Refusal::SheetNumber,
         place,
-    }
+    })
 }
 
 // What one group or two say that begin at this place, and the place after them: had without a branch on how many they are, which
@@ -99,7 +97,8 @@ fn no_last(byte: u8) -> u8
 }
 
 // The number that begins at this place. One of one group or two is had at once.
-pub fn read_number(bytes: &[u8], place: usize) -> Number
+#[tactic(auto, using(crate::proofs::FewGroups::number_few))]
+pub fn read_number(bytes: &[u8], place: usize) -> Result<Step, Fault>
     ensures { told result ≡ number bytes.now place }
 {
     if bytes.len() < 2 {
@@ -111,14 +110,11 @@ pub fn read_number(bytes: &[u8], place: usize) -> Number
     if bytes[place] / 128 * no_last(bytes[place + 1]) != 0 {
         return read_groups(bytes, place);
     }
-    let few = few_groups(bytes, place);
-    Number::Value {
-        value: few.value,
-        next: few.next,
-    }
+    Ok(few_groups(bytes, place))
 }
 
 // How many groups a number has.
+#[tactic(auto, unfolding(crate::specs::Number::groups))]
 pub fn width(value: u32) -> usize
     ensures { result ≡ length (groups value) }
 {

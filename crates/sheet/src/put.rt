@@ -19,12 +19,10 @@ fn put_rows(rows: &[u16], bytes: &mut [u8], place: usize) -> usize
 {
     let mut at = place;
     let mut least = 0;
-    let mut k = 0;
-    while k < rows.len() {
-        let r = rows[k] as u32;
+    for row in rows {
+        let r = *row as u32;
         at = put(r - least, bytes, at);
         least = r + 1;
-        k += 1;
     }
     at
 }
@@ -35,12 +33,10 @@ fn put_columns(size: usize, cs: &[u16], cr: &[u16], bytes: &mut [u8], place: usi
     ensures { Puts place (columns_bytes (parts size cs.now cr.now)) bytes.old result bytes.new }
 {
     let mut at = place;
-    let mut c = 0;
-    while c < size {
+    for c in 0..size {
         let rows = (Register { size }).look(cs, cr, c);
         at = put(rows.len() as u32, bytes, at);
         at = put_rows(rows, bytes, at);
-        c += 1;
     }
     at
 }
@@ -52,11 +48,9 @@ fn put_order(size: usize, or: &[u16], oc: &[u16], bytes: &mut [u8], place: usize
     ensures { Puts place (order_bytes (pairs size or.now oc.now)) bytes.old result bytes.new }
 {
     let mut at = place;
-    let mut t = 0;
-    while t < size {
-        at = put(or[t] as u32, bytes, at);
-        at = put(oc[t] as u32, bytes, at);
-        t += 1;
+    for (row, col) in or[..size].iter().zip(&oc[..size]) {
+        at = put(*row as u32, bytes, at);
+        at = put(*col as u32, bytes, at);
     }
     at
 }

@@ -29,15 +29,13 @@ fn enter(bytes: &[u8], place: usize, m: u32, places: &mut [u16; Register::MAX_SI
         (¬ Once (at (firsts (thing [] (order_at bytes.now m place)))) m m) }
 {
     let mut at = place;
-    let mut t = 0;
-    while t < m {
+    for t in 0..m {
         let pair = known_pair(bytes, at);
         if places[pair.row as usize] < NOWHERE {
             return false;
         }
         places[pair.row as usize] = t as u16;
         at = pair.next;
-        t += 1;
     }
     true
 }
@@ -52,17 +50,12 @@ fn top(bytes: &[u8], place: usize, n: u32, places: &[u16; Register::MAX_SIZE]) -
     let mut at = place;
     let mut least = 0;
     let mut top = 0;
-    let mut k = 0;
-    while k < n {
+    for _ in 0..n {
         let gap = known(bytes, at);
         let r = least + gap.value;
-        let p = places[r as usize] as u32 + 1;
-        if top < p {
-            top = p;
-        }
+        top = top.max(places[r as usize] as u32 + 1);
         least = r + 1;
         at = gap.next;
-        k += 1;
     }
     Step {
         value: top,
@@ -83,13 +76,11 @@ fn tops(
         ≡ greatest (λ (x : ℕ). suc (at places.now x)) (column (thing [] (columns_at bytes.now m place)) c) }
 {
     let mut at = place;
-    let mut c = 0;
-    while c < m {
+    for entry in &mut tops[..m as usize] {
         let n = known(bytes, at);
         let step = top(bytes, n.next, n.value, places);
-        tops[c as usize] = step.value as u16;
+        *entry = step.value as u16;
         at = step.next;
-        c += 1;
     }
 }
 
@@ -100,14 +91,12 @@ fn agree(bytes: &[u8], place: usize, m: u32, tops: &[u16; Register::MAX_SIZE]) -
         ((t : ℕ) → t < m → at tops.now (at (seconds (thing [] (order_at bytes.now m place))) t) ≡ t + 1) }
 {
     let mut at = place;
-    let mut t = 0;
-    while t < m {
+    for t in 0..m {
         let pair = known_pair(bytes, at);
         if tops[pair.column as usize] != (t + 1) as u16 {
             return false;
         }
         at = pair.next;
-        t += 1;
     }
     true
 }

@@ -28,9 +28,6 @@ module _ (c : After-known-n) where
 pub loop-c-init : goal.loop-c-init
 loop-c-init c = (left_none c.requires.1, omega arith, listed_none (room (goal.at.loop-c-init c).Start))
 
-pub bounds-cs-c : goal.bounds-cs-c
-bounds-cs-c c = omega (arith, c.loop-c.invariant.2.starts_now.long, c.requires.2)
-
 pub known-n-requires : goal.known-n-requires
 known-n-requires c = count_known _ _ c.requires.0 c.loop-c.invariant.0 (omega arith)
 
@@ -49,15 +46,6 @@ loop-c-preserved c =
       (met after_known_n).few,
       listed_more (room (goal.at.loop-c-preserved c).Start) c.loop-c.invariant.2 _ _ (omega arith) refl (met after_known_n).is (met after_known_n).rows_are c.fill_rows-at.ensures.1,
     )
-
-pub bounds-cs-m : goal.bounds-cs-m
-bounds-cs-m c = omega (arith, c.loop-c.invariant.2.starts_now.long, c.requires.2)
-
-pub shape_of-cs : goal.shape_of-cs
-shape_of-cs c = let f = c.loop-c.invariant.2.starts_now.long in search rules
-
-pub shape_of-cr : goal.shape_of-cr
-shape_of-cr c = let f = c.loop-c.invariant.2.entries_long in search rules
 
 pub returns : goal.returns
 returns c =

@@ -1,6 +1,6 @@
 -- `fill_columns`: the columns before column `c` have been stored.
 use mathlib.Core.List.{[]}
-use Prim.Native.Nat.{◌-◌, ◌≤◌}
+use Prim.Native.Nat.{◌≤◌}
 use Rattle.listing.specs.Limits.{max_total}
 use Rattle.sheet.specs.Passes.{thing}
 use Rattle.sheet.specs.Reading.{columns_at}
@@ -12,6 +12,3 @@ abbrev pub invariant-loop-c : goal.invariant-loop-c
 invariant-loop-c l =
     let P = thing [] (columns_at l.bytes l.m l.place) in
     ColumnsLeft l.bytes l.m l.place P l.c l.entries l.at × (l.entries ≤ max_total) × Listed P l.initial.cs l.initial.cr l.cs l.cr l.c l.entries
-
-abbrev pub decreases-loop-c : goal.decreases-loop-c
-decreases-loop-c l = l.m - l.c

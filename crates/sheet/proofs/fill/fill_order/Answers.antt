@@ -5,11 +5,11 @@ use Prim.Native.Nat.{ℕ}
 use native.Mathlib.Omega.{arith}
 use lib.ListN.{length, length-map}
 use borrow.Author.Rules.{rules}
-use Rattle.listing.proofs.Storing.{stored_none, stored_more, stored_all}
+use Rattle.listing.proofs.Storing.{stored_more, stored_all}
 use Rattle.sheet.specs.Passes.{thing}
 use Rattle.sheet.specs.Reading.{order_at}
 use Rattle.sheet.specs.Sheet.{firsts, seconds}
-use Rattle.sheet.proofs.Lefts.{left_none, left_long}
+use Rattle.sheet.proofs.Lefts.{left_long}
 use Rattle.sheet.proofs.Rereads.{pair_known, PairMet, pair_met}
 use Rattle.sheet.proofs.fill.fill_order.Goals as goal
 use Rattle.sheet.proofs.fill.fill_order.Goals.{After-known_pair-pair, At-loop-t}
@@ -31,23 +31,14 @@ module _ (c : After-known_pair-pair) where
       c.known_pair-pair.result.row c.known_pair-pair.result.column c.known_pair-pair.result.next
   met = pair_met _ _ c.requires.0 c.loop-t.invariant.0 (omega arith) _ _ c.known_pair-pair.ensures
 
-pub loop-t-init : goal.loop-t-init
-loop-t-init c = (left_none c.requires.1, stored_none, stored_none)
-
 pub known_pair-pair-requires : goal.known_pair-pair-requires
 known_pair-pair-requires c = pair_known _ _ c.requires.0 c.loop-t.invariant.0 (omega arith)
 
 pub overflow_cast-rows : goal.overflow_cast-rows
 overflow_cast-rows c = let b = (met (goal.at.overflow_cast-rows c).After-known_pair-pair).row_below in search rules
 
-pub bounds-rows-t : goal.bounds-rows-t
-bounds-rows-t c = omega (arith, c.requires.2, c.loop-t.invariant.1.long)
-
 pub overflow_cast-cols : goal.overflow_cast-cols
 overflow_cast-cols c = let b = (met (goal.at.overflow_cast-cols c).After-known_pair-pair).column_below in search rules
-
-pub bounds-cols-t : goal.bounds-cols-t
-bounds-cols-t c = omega (arith, c.requires.3, c.loop-t.invariant.2.long)
 
 pub loop-t-preserved : goal.loop-t-preserved
 loop-t-preserved c =

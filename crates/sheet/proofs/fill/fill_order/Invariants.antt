@@ -1,6 +1,5 @@
 -- `fill_order`: the rows and the columns of the first `t` places have been stored.
 use mathlib.Core.List.{[]}
-use Prim.Native.Nat.{◌-◌}
 use Rattle.listing.proofs.Storing.{Stored}
 use Rattle.sheet.specs.Passes.{thing}
 use Rattle.sheet.specs.Reading.{order_at}
@@ -12,6 +11,3 @@ abbrev pub invariant-loop-t : goal.invariant-loop-t
 invariant-loop-t l =
     let o = thing [] (order_at l.bytes l.m l.place) in
     OrderLeft l.bytes l.m l.place o l.t l.at × Stored 0 (firsts o) l.initial.rows l.t l.rows × Stored 0 (seconds o) l.initial.cols l.t l.cols
-
-abbrev pub decreases-loop-t : goal.decreases-loop-t
-decreases-loop-t l = l.m - l.t

@@ -1,12 +1,11 @@
 -- `measure_columns`: the columns before column c are measured.
 use mathlib.Core.List.{List, []}
-use mathlib.Core.Path.{refl}
 use Prim.Native.Nat.{ℕ, ◌+◌, ◌≤◌}
 use native.Mathlib.Omega.{arith}
 use lib.ListN.{length, length-append}
 use Rattle.pattern.specs.Pattern.{column}
 use Rattle.listing.specs.Listing.{parts}
-use Rattle.text.proofs.Progress.{Measured, gone_none, gone_length, gone_all, measured_more}
+use Rattle.text.proofs.Progress.{Measured, gone_length, gone_all, measured_more}
 use Rattle.sheet.specs.Number.{groups}
 use Rattle.sheet.specs.Sheet.{grown, rows_bytes, column_bytes}
 use Rattle.sheet.proofs.AtPlaces.{parts_length, ColumnSeen, column_seen}
@@ -45,14 +44,8 @@ pub returns : goal.returns
 returns c =
     gone_all c.loop-c.invariant.1 (omega (arith, parts_length c.args.size c.args.cs.now c.args.cr.now, c.loop-c-test.false))
 
-pub loop-c-init : goal.loop-c-init
-loop-c-init c = (0, gone_none refl)
-
 pub overflow_cast-rows : goal.overflow_cast-rows
 overflow_cast-rows c = omega (arith, (seen (goal.at.overflow_cast-rows c).After-look-rows).few)
-
-pub measure_rows-requires : goal.measure_rows-requires
-measure_rows-requires c = (seen (goal.at.measure_rows-requires c).After-look-rows).rises
 
 pub overflow_add-n : goal.overflow_add-n
 overflow_add-n c = omega (arith, short (goal.at.overflow_add-n c).After-measure_rows)

@@ -1,12 +1,9 @@
--- `measure_order`: the pairs before place t are measured.
-use Prim.Native.Nat.{◌-◌}
+-- `measure_order`: as many pairs as the loop has gone through are measured.
+use lib.ListN.{length}
 use Rattle.pattern.specs.Order.{pairs}
 use Rattle.text.proofs.Progress.{Measured}
 use Rattle.sheet.specs.Sheet.{counted, pair_bytes}
 use Rattle.sheet.proofs.measure.measure_order.Given as goal
 
-abbrev pub invariant-loop-t : goal.invariant-loop-t
-invariant-loop-t l = Measured pair_bytes counted (pairs l.size l.or l.oc) l.t l.t l.n
-
-abbrev pub decreases-loop-t : goal.decreases-loop-t
-decreases-loop-t l = l.size - l.t
+abbrev pub invariant-loop-row : goal.invariant-loop-row
+invariant-loop-row l = Measured pair_bytes counted (pairs l.size l.or l.oc) (length l.yielded) (length l.yielded) l.n

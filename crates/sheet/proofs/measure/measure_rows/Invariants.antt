@@ -1,13 +1,8 @@
--- `measure_rows`: the rows before place k are measured.
-use Prim.Native.Nat.{◌-◌}
-use lib.ListN.{length}
+-- `measure_rows`: the rows before the index are measured.
 use Rattle.text.proofs.Progress.{Measured}
 use Rattle.sheet.specs.Sheet.{past, row_bytes}
 use Rattle.sheet.proofs.AtPlaces.{AtRow}
 use Rattle.sheet.proofs.measure.measure_rows.Given as goal
 
-abbrev pub invariant-loop-k : goal.invariant-loop-k
-invariant-loop-k l = AtRow l.rows l.k l.least × Measured row_bytes past l.rows l.k l.least l.n
-
-abbrev pub decreases-loop-k : goal.decreases-loop-k
-decreases-loop-k l = length l.rows - l.k
+abbrev pub invariant-loop-row : goal.invariant-loop-row
+invariant-loop-row l = AtRow l.rows l.row-index l.least × Measured row_bytes past l.rows l.row-index l.least l.n

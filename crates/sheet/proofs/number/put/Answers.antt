@@ -1,19 +1,8 @@
 -- `put`: one group and what stands behind it, or two; else what `put_groups` puts.
 use native.Mathlib.Omega.{arith}
-use lib.ListN.{length-set}
 use Rattle.sheet.proofs.Numbers.{put_one_kept, put_two}
 use Rattle.sheet.proofs.number.put.Goals as goal
 use Rattle.sheet.proofs.number.put.Goals.{then-value-ge128, else-value-ge128}
-
-pub overflow_cast-bytes : goal.overflow_cast-bytes
-overflow_cast-bytes c =
-    elim c.if-value-ge128.branch [
-      | then-value-ge128 w ↦ omega (arith, w.first-is)
-      | else-value-ge128 w ↦ omega (arith, w.first-is, w.if-value-ge128.false)
-    ]
-
-pub bounds-bytes-place-3 : goal.bounds-bytes-place-3
-bounds-bytes-place-3 c = simp length-set (omega arith)
 
 pub returns : goal.returns
 returns c =

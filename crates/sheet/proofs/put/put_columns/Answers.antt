@@ -6,13 +6,12 @@ use native.Mathlib.Omega.{arith}
 use lib.ListN.{length}
 use Rattle.pattern.specs.Pattern.{column}
 use Rattle.listing.specs.Listing.{parts}
-use Rattle.text.specs.Puts.{Puts}
-use Rattle.text.proofs.Progress.{gone_all, putting_none, first_room, second_room, putting_both, puts_length}
+use Rattle.text.proofs.Progress.{gone_all, first_room, second_room, putting_both}
 use Rattle.sheet.specs.Number.{groups}
-use Rattle.sheet.specs.Sheet.{rows_bytes, column_bytes, columns_bytes}
+use Rattle.sheet.specs.Sheet.{rows_bytes, column_bytes}
 use Rattle.sheet.proofs.AtPlaces.{parts_length, ColumnSeen, column_seen}
 use Rattle.sheet.proofs.put.put_columns.Goals as goal
-use Rattle.sheet.proofs.put.put_columns.Goals.{After-look-rows, After-loop-c}
+use Rattle.sheet.proofs.put.put_columns.Goals.{After-look-rows}
 
 -- The rows that were handed over are those of the column.
 module _ (c : After-look-rows) where
@@ -49,20 +48,8 @@ loop-c-preserved c =
     let after_look_rows = (goal.at.loop-c-preserved c).After-look-rows in
     (_, putting_both c.loop-c.invariant.1 [] (within after_look_rows) c.requires.2 (groups (length (rows after_look_rows))) (rows_bytes (rows after_look_rows)) (two after_look_rows) c.put-at.ensures c.put_rows-at.ensures)
 
--- All are put.
-all : (c : After-loop-c)
-    → Puts c.args.place (columns_bytes (parts c.args.size c.args.cs.now c.args.cr.now)) c.args.bytes.now c.loop-c.at c.loop-c.bytes
-all c =
-    gone_all c.loop-c.invariant.1 (omega (arith, c.loop-c-test.false, parts_length c.args.size c.args.cs.now c.args.cr.now))
-
-pub shape_of-bytes : goal.shape_of-bytes
-shape_of-bytes c = puts_length c.requires.2 (all (goal.at.shape_of-bytes c).After-loop-c)
-
-pub loop-c-init : goal.loop-c-init
-loop-c-init c = (0, putting_none)
-
 pub overflow_cast-rows : goal.overflow_cast-rows
 overflow_cast-rows c = omega (arith, (seen (goal.at.overflow_cast-rows c).After-look-rows).few)
 
 pub returns : goal.returns
-returns c = all (goal.at.returns c).After-loop-c
+returns c = gone_all c.loop-c.invariant.1 (omega (arith, c.loop-c-test.false, parts_length c.args.size c.args.cs.now c.args.cr.now))

@@ -1,6 +1,6 @@
--- `scan_columns`: the columns before column c have been read.
+-- `scan_columns`: as many columns as the counter says have been read.
 use mathlib.Core.List.{List}
-use Prim.Native.Nat.{ℕ, ◌-◌, ◌≤◌}
+use Prim.Native.Nat.{ℕ, ◌≤◌}
 use lib.ListN.{length}
 use Rattle.pattern.specs.Flat.{flat}
 use Rattle.listing.specs.Limits.{max_total}
@@ -9,9 +9,6 @@ use Rattle.sheet.specs.Sheet.{grown}
 use Rattle.sheet.proofs.Gauges.{Partly}
 use Rattle.sheet.proofs.scan.scan_columns.Given as goal
 
-abbrev pub invariant-loop-c : goal.invariant-loop-c
-invariant-loop-c l =
-    (l.entries ≤ max_total) × Partly (column_at l.bytes l.m) grown (λ (P : List (List ℕ)). length (flat P)) l.m 0 l.place l.c l.entries l.entries l.at
-
-abbrev pub decreases-loop-c : goal.decreases-loop-c
-decreases-loop-c l = l.m - l.c
+abbrev pub invariant-loop : goal.invariant-loop
+invariant-loop l =
+    (l.entries ≤ max_total) × Partly (column_at l.bytes l.m) grown (λ (P : List (List ℕ)). length (flat P)) l.m 0 l.place l.counter l.entries l.entries l.at

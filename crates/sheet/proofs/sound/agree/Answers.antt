@@ -3,14 +3,12 @@ use mathlib.Core.List.{List, []}
 use mathlib.Core.Path.{◌≡◌, sym, ap, ◌∙◌}
 use Prim.Native.Nat.{ℕ}
 use native.Mathlib.Omega.{arith}
-use borrow.Author.Count.{below_none, below_more}
-use borrow.Author.Rules.{rules}
+use borrow.Author.Count.{below_more}
 use Rattle.pattern.specs.Places.{at as stands}
-use Rattle.listing.proofs.Answers.{told_yes, told_no}
+use Rattle.listing.proofs.Answers.{told_no}
 use Rattle.sheet.specs.Passes.{thing}
 use Rattle.sheet.specs.Reading.{order_at}
 use Rattle.sheet.specs.Sheet.{seconds}
-use Rattle.sheet.proofs.Lefts.{left_none}
 use Rattle.sheet.proofs.Rereads.{pair_known, PairMet, pair_met}
 use Rattle.sheet.proofs.sound.agree.Goals as goal
 use Rattle.sheet.proofs.sound.agree.Goals.{After-known_pair-pair}
@@ -28,14 +26,8 @@ module _ (c : After-known_pair-pair) where
   stands_at : stands c.args.tops.now c.known_pair-pair.result.column ≡ stands c.args.tops.now (stands (seconds o) c.loop-t.t)
   stands_at = ap (stands c.args.tops.now) met.column_is
 
-pub loop-t-init : goal.loop-t-init
-loop-t-init c = (left_none c.requires.1, below_none _)
-
 pub known_pair-pair-requires : goal.known_pair-pair-requires
 known_pair-pair-requires c = pair_known _ _ c.requires.0 c.loop-t.invariant.0 (omega arith)
-
-pub offset_bounds-tops-pair : goal.offset_bounds-tops-pair
-offset_bounds-tops-pair c = let b = (met (goal.at.offset_bounds-tops-pair c).After-known_pair-pair).column_below in search rules
 
 pub bounds-tops-pair : goal.bounds-tops-pair
 bounds-tops-pair c = omega (arith, (met (goal.at.bounds-tops-pair c).After-known_pair-pair).column_below)
@@ -48,6 +40,3 @@ pub loop-t-preserved : goal.loop-t-preserved
 loop-t-preserved c =
     let after_known_pair_pair = (goal.at.loop-t-preserved c).After-known_pair-pair in
     ((met after_known_pair_pair).left, below_more _ _ c.loop-t.invariant.1 (sym (stands_at after_known_pair_pair) ∙ c.if-tops-pair.false))
-
-pub returns : goal.returns
-returns c = told_yes (λ x h. c.loop-t.invariant.1 x (omega arith))

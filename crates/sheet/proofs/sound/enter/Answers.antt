@@ -3,14 +3,12 @@ use mathlib.Core.List.{List, []}
 use mathlib.Core.Path.{◌≡◌}
 use Prim.Native.Nat.{ℕ}
 use native.Mathlib.Omega.{arith}
-use borrow.Author.Rules.{rules}
 use Rattle.pattern.specs.Places.{at as stands}
 use Rattle.listing.proofs.Answers.{told_yes, told_no}
-use Rattle.register.proofs.Orders.{entered_none, entered_twice, entered_more, entered_all}
+use Rattle.register.proofs.Orders.{entered_twice, entered_more, entered_all}
 use Rattle.sheet.specs.Passes.{thing}
 use Rattle.sheet.specs.Reading.{order_at}
 use Rattle.sheet.specs.Sheet.{firsts}
-use Rattle.sheet.proofs.Lefts.{left_none}
 use Rattle.sheet.proofs.Rereads.{pair_known, PairMet, pair_met}
 use Rattle.sheet.proofs.sound.enter.Goals as goal
 use Rattle.sheet.proofs.sound.enter.Goals.{After-known_pair-pair}
@@ -24,14 +22,8 @@ module _ (c : After-known_pair-pair) where
       c.known_pair-pair.result.row c.known_pair-pair.result.column c.known_pair-pair.result.next
   met = pair_met _ _ c.requires.got.0 c.loop-t.invariant.0 (omega arith) _ _ c.known_pair-pair.ensures
 
-pub loop-t-init : goal.loop-t-init
-loop-t-init c = (left_none c.requires.got.1, entered_none _ c.requires.none_placed.0 (λ x h. omega (arith, c.requires.none_placed.1 x h)))
-
 pub known_pair-pair-requires : goal.known_pair-pair-requires
 known_pair-pair-requires c = pair_known _ _ c.requires.got.0 c.loop-t.invariant.0 (omega arith)
-
-pub offset_bounds-places-pair : goal.offset_bounds-places-pair
-offset_bounds-places-pair c = let b = (met (goal.at.offset_bounds-places-pair c).After-known_pair-pair).row_below in search rules
 
 pub bounds-places-pair : goal.bounds-places-pair
 bounds-places-pair c = omega (arith, (met (goal.at.bounds-places-pair c).After-known_pair-pair).row_below)
@@ -40,12 +32,6 @@ pub returns-then-places-pair-lt-NOWHERE : goal.returns-then-places-pair-lt-NOWHE
 returns-then-places-pair-lt-NOWHERE c =
     let after_known_pair_pair = (goal.at.returns-then-places-pair-lt-NOWHERE c).After-known_pair-pair in
     told_no (entered_twice (stands (firsts (o after_known_pair_pair))) (omega arith) (omega arith) c.loop-t.invariant.1 _ (met after_known_pair_pair).row_is (met after_known_pair_pair).row_below c.if-places-pair-lt-NOWHERE.true)
-
-pub offset_bounds-places-pair-in-loop-t : goal.offset_bounds-places-pair-in-loop-t
-offset_bounds-places-pair-in-loop-t c = let b = (met (goal.at.offset_bounds-places-pair-in-loop-t c).After-known_pair-pair).row_below in search rules
-
-pub bounds-places-pair-in-loop-t : goal.bounds-places-pair-in-loop-t
-bounds-places-pair-in-loop-t c = omega (arith, (met (goal.at.bounds-places-pair-in-loop-t c).After-known_pair-pair).row_below)
 
 pub loop-t-preserved : goal.loop-t-preserved
 loop-t-preserved c =

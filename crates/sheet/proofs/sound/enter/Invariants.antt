@@ -1,6 +1,5 @@
 -- `enter`: the places of the rows before place `t` have been entered.
 use mathlib.Core.List.{[]}
-use Prim.Native.Nat.{◌-◌}
 use Rattle.pattern.specs.Places.{at as stands}
 use Rattle.register.proofs.Orders.{Entered}
 use Rattle.sheet.specs.Passes.{thing}
@@ -13,6 +12,3 @@ abbrev pub invariant-loop-t : goal.invariant-loop-t
 invariant-loop-t l =
     let o = thing [] (order_at l.bytes l.m l.place) in
     OrderLeft l.bytes l.m l.place o l.t l.at × Entered l.m (stands (firsts o)) l.t l.places
-
-abbrev pub decreases-loop-t : goal.decreases-loop-t
-decreases-loop-t l = l.m - l.t

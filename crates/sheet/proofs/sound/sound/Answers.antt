@@ -1,20 +1,14 @@
 -- `sound`: the rows' places, the columns' greatest places, and what they say of the order.
 use mathlib.Core.Path.{refl}
 use lib.ListN.{get_or-replicate}
-use Rattle.listing.proofs.Answers.{told_no, refuted, shown}
+use Rattle.listing.proofs.Answers.{shown}
 use Rattle.register.proofs.Orders.{placed_below}
 use Rattle.sheet.proofs.Formed.{columns_formed, order_below}
 use Rattle.sheet.proofs.Tops.{tops_sound}
 use Rattle.sheet.proofs.sound.sound.Goals as goal
 
-pub enter-requires : goal.enter-requires
-enter-requires c = record {
-  got = (c.requires.0, c.requires.2);
-  none_placed = (refl, λ x h. get_or-replicate 1000 x 1000 0 h);
-}
-
-pub returns-then-not-enter : goal.returns-then-not-enter
-returns-then-not-enter c = told_no (λ p. refuted c.enter.ensures c.if-not-enter.true p.rows)
+pub enter-requires-clause-none_placed : goal.enter-requires-clause-none_placed
+enter-requires-clause-none_placed c = (refl, λ x h. get_or-replicate 1000 x 1000 0 h)
 
 pub tops-requires : goal.tops-requires
 tops-requires c =

@@ -1,7 +1,7 @@
--- `top`: the greatest of the first `k` rows.
+-- `top`: the greatest of as many rows as the counter says.
 use mathlib.Core.List.{[]}
 use mathlib.Core.Path.{◌≡◌}
-use Prim.Native.Nat.{ℕ, suc, ◌-◌}
+use Prim.Native.Nat.{ℕ, suc}
 use lib.ListN.{take}
 use Rattle.pattern.specs.Places.{at as stands}
 use Rattle.pattern.specs.Series.{greatest}
@@ -11,10 +11,7 @@ use Rattle.sheet.specs.Reading.{rows_at}
 use Rattle.sheet.proofs.Rereads.{RowsLeft}
 use Rattle.sheet.proofs.sound.top.Given as goal
 
-abbrev pub invariant-loop-k : goal.invariant-loop-k
-invariant-loop-k l =
+abbrev pub invariant-loop : goal.invariant-loop
+invariant-loop l =
     let R = thing [] (rows_at l.bytes max_size l.n l.place) in
-    RowsLeft l.bytes l.n l.place R l.k l.least l.at × (l.top ≡ greatest (λ (x : ℕ). suc (stands l.places x)) (take l.k R))
-
-abbrev pub decreases-loop-k : goal.decreases-loop-k
-decreases-loop-k l = l.n - l.k
+    RowsLeft l.bytes l.n l.place R l.counter l.least l.at × (l.top ≡ greatest (λ (x : ℕ). suc (stands l.places x)) (take l.counter R))

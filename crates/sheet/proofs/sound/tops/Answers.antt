@@ -1,9 +1,8 @@
--- `tops`: the columns before column `c` have their entries.
+-- `tops`: the columns before the index have their entries.
 use mathlib.Core.List.{List, []}
 use mathlib.Core.Path.{◌≡◌, ap, ◌∙◌}
 use Prim.Native.Nat.{ℕ, suc, ◌≤◌}
 use native.Mathlib.Omega.{arith}
-use lib.ListN.{length-set}
 use borrow.Author.Rules.{rules}
 use Rattle.pattern.specs.Pattern.{column}
 use Rattle.pattern.specs.Places.{at as stands}
@@ -13,7 +12,6 @@ use Rattle.listing.proofs.Stores.{stored_more}
 use Rattle.sheet.specs.Passes.{thing}
 use Rattle.sheet.specs.Reading.{columns_at}
 use Rattle.sheet.proofs.Formed.{columns_formed}
-use Rattle.sheet.proofs.Lefts.{left_none}
 use Rattle.sheet.proofs.Rereads.{count_known, CountMet, count_met}
 use Rattle.sheet.proofs.Tops.{top_low}
 use Rattle.sheet.proofs.sound.tops.Goals as goal
@@ -25,45 +23,38 @@ module _ (c : After-known-n) where
   P = thing [] (columns_at c.args.bytes.now c.args.m c.args.place)
 
   met : CountMet c.args.bytes.now c.args.m c.args.place P
-      c.loop-c.c c.loop-c.invariant.0.0 c.known-n.result.value c.known-n.result.next
-  met = count_met _ _ c.requires.0 c.loop-c.invariant.0.1 (omega arith) c.known-n.ensures
+      c.loop-entry.entry-index c.loop-entry.invariant.0.0 c.known-n.result.value c.known-n.result.next
+  met = count_met _ _ c.requires.0 c.loop-entry.invariant.0.1 (omega arith) c.known-n.ensures
 
-  rising : Rising c.args.m (column P c.loop-c.c)
-  rising = (columns_formed c.args.bytes.now c.args.m c.args.place c.requires.1.read).rise c.loop-c.c (omega arith)
+  rising : Rising c.args.m (column P c.loop-entry.entry-index)
+  rising = (columns_formed c.args.bytes.now c.args.m c.args.place c.requires.1.read).rise c.loop-entry.entry-index (omega arith)
 
 -- Once the column's entry is known.
 module _ (c : After-top-step) where
   abbrev after_known_n : After-known-n
   after_known_n = (goal.at.After-top-step c).After-known-n
 
-  is : c.top-step.result.value ≡ greatest (λ (r : ℕ). suc (stands c.args.places.now r)) (column (P after_known_n) c.loop-c.c)
+  is : c.top-step.result.value ≡ greatest (λ (r : ℕ). suc (stands c.args.places.now r)) (column (P after_known_n) c.loop-entry.entry-index)
   is = c.top-step.ensures.1 ∙ ap (greatest (λ (r : ℕ). suc (stands c.args.places.now r))) (met after_known_n).rows_are
 
   low : c.top-step.result.value ≤ c.args.m
   low = omega (arith, is, top_low (stands c.args.places.now) (rising after_known_n) c.requires.2)
 
-pub loop-c-init : goal.loop-c-init
-loop-c-init c = ((0, left_none c.requires.1), c.requires.3, λ x h. absurd (omega arith))
-
 pub known-n-requires : goal.known-n-requires
-known-n-requires c = count_known _ _ c.requires.0 c.loop-c.invariant.0.1 (omega arith)
+known-n-requires c = count_known _ _ c.requires.0 c.loop-entry.invariant.0.1 (omega arith)
 
 pub top-step-requires : goal.top-step-requires
 top-step-requires c =
     let after_known_n = (goal.at.top-step-requires c).After-known-n in
     ((met after_known_n).rows_known, λ k h. rw (met after_known_n).rows_are (omega (arith, c.requires.0, c.requires.2 _ ((rising after_known_n).below k (omega (arith, (met after_known_n).is))))))
 
-pub overflow_cast-tops : goal.overflow_cast-tops
-overflow_cast-tops c = let b = low (goal.at.overflow_cast-tops c).After-top-step in search rules
+pub overflow_cast-entry : goal.overflow_cast-entry
+overflow_cast-entry c = let b = low (goal.at.overflow_cast-entry c).After-top-step in search rules
 
-pub loop-c-preserved : goal.loop-c-preserved
-loop-c-preserved c =
-    let after_known_n = (goal.at.loop-c-preserved c).After-known-n in (
+pub loop-entry-preserved : goal.loop-entry-preserved
+loop-entry-preserved c =
+    let after_known_n = (goal.at.loop-entry-preserved c).After-known-n in (
       (_, (met after_known_n).left c.top-step.ensures.0),
-      length-set c.loop-c.tops c.loop-c.c c.top-step.result.value ∙ c.loop-c.invariant.1,
-      stored_more (λ (x : ℕ). greatest (λ (r : ℕ). suc (stands c.args.places.now r)) (column (P after_known_n) x)) c.loop-c.tops c.loop-c.c c.top-step.result.value
-          (omega (arith, c.loop-c.invariant.1)) (is (goal.at.loop-c-preserved c).After-top-step) c.loop-c.invariant.2,
+      stored_more (λ (x : ℕ). greatest (λ (r : ℕ). suc (stands c.args.places.now r)) (column (P after_known_n) x)) c.loop-entry.entry-items c.loop-entry.entry-index c.top-step.result.value
+          (omega arith) (is (goal.at.loop-entry-preserved c).After-top-step) c.loop-entry.invariant.1,
     )
-
-pub returns : goal.returns
-returns c = λ x h. c.loop-c.invariant.2 x (omega arith)
