@@ -1,20 +1,25 @@
 -- The lists of an order: numbers laid at their places, and what stands at one place moved to the last. Rests on `pattern`,
--- `listing` and `register`.
-use mathlib.Core.List.{List}
-use mathlib.Core.Logic.{◌≢◌, inl, inr}
-use mathlib.Core.Path.{◌≡◌, refl, sym, ap, ◌∙◌}
-use Prim.Native.Nat.{ℕ, ◌+◌, ◌-◌, ◌≤◌, ◌<◌}
-use native.Mathlib.Decide.{ℕ_discrete, dec_lt}
+-- `listing`, `register` and `store`.
+use mathlib.Core.List.{List, [], ◌∷◌, ◌++◌, append_assoc}
+use mathlib.Core.Path.{◌≡◌, sym, ap, ap₂, ◌∙◌}
+use Prim.Native.Nat.{ℕ, suc, ◌+◌, ◌-◌, ◌≤◌, ◌<◌}
+use native.Mathlib.Decide.{ℕ_discrete}
+use native.Mathlib.Numerals.{add-one}
 use native.Mathlib.Omega.{arith}
-use lib.ListN.{length, set, take, length-set}
-use lib.Seq.{get_or-set_same, get_or-set_other, get_or-take, length-take-le}
+use lib.ListN.{length, set, take, drop}
+use lib.Seq.{get_or-set_same, get_or-set_other, get_or-take, take-take}
 use Rattle.pattern.specs.Places.{at, Once, place}
 use Rattle.pattern.specs.Verdict.{to_last}
 use Rattle.pattern.proofs.Finding.{place_at, place_once}
-use Rattle.pattern.proofs.ToLast.{From, to_last_length, to_last_from}
 use Rattle.listing.specs.Held.{over}
 use Rattle.listing.specs.Walk.{Kept}
 use Rattle.listing.proofs.Holding.{over_is}
+use Rattle.listing.specs.Listing.{between}
+use Rattle.listing.proofs.Between.{between_length}
+use Rattle.listing.proofs.Puts.{put_more, put_is_over}
+use Rattle.std.proofs.lemmas.Slice.{between_is}
+use Rattle.std.specs.List.{copy_within}
+use Rattle.store.proofs.Moving.{moved}
 use Rattle.listing.proofs.Turns.{kept_all, kept_set}
 use Rattle.register.specs.Order.{Placed}
 
@@ -60,58 +65,19 @@ order_places order e L = record { long = e; once = L.once; gives = L.stand }
 
 -- ---- To the last place
 
--- What stands behind place `t`, up to place `i`, has moved one place to the front.
-pub record Moving (t i : ℕ) (old now : List ℕ) : Type 0 where
-  pub long : length now ≡ length old
-  pub moved : (q : ℕ) → t ≤ q → q + 1 < i → at now q ≡ at old (q + 1)
-  pub before : (q : ℕ) → q < t → at now q ≡ at old q
-  pub behind : (q : ℕ) → i ≤ q + 1 → at now q ≡ at old q
-
-module _ {t : ℕ} {old : List ℕ} where
-  pub moving_none : Moving t (t + 1) old old
-  moving_none = record { long = refl; moved = λ q h u. absurd (omega arith); before = λ q h. refl; behind = λ q h. refl }
-
-  pub moving_more : {i v : ℕ} {now : List ℕ} → t < i → i < length old → v ≡ at now i → Moving t i old now → Moving t (i + 1) old (set now (i - 1) v)
-  moving_more {i} {v} {now} h b e M =
-      record {
-        long = length-set now (i - 1) v ∙ M.long;
-        moved = λ q u w. go q u w (ℕ_discrete q (i - 1));
-        before = λ q u. other q (λ z. omega arith) ∙ M.before q u;
-        behind = λ q u. other q (λ z. omega arith) ∙ M.behind q (omega arith);
-      }
-    where
-      other : (q : ℕ) → q ≢ i - 1 → at (set now (i - 1) v) q ≡ at now q
-      other q n = get_or-set_other now (i - 1) q v 0 n
-
-      go : (q : ℕ) → t ≤ q → q + 1 < i + 1 → Dec (q ≡ i - 1) → at (set now (i - 1) v) q ≡ at old (q + 1)
-      go q u w (no n) = other q n ∙ M.moved q u (omega arith)
-      go q u w (yes z) =
-          let y : i ≡ q + 1 = omega arith in
-          ap (at (set now (i - 1) v)) z ∙ get_or-set_same now (i - 1) v 0 (omega (arith, M.long)) ∙ e ∙ M.behind i (omega arith) ∙ ap (at old) y
-
-  -- And what stood at place `t` goes to the last of `m` places.
-  pub moving_all : {m i v : ℕ} {now : List ℕ} → t < m → m ≤ length old → i ≡ m → v ≡ at old t → Moving t i old now → set now (m - 1) v ≡ over (to_last t (take m old)) old
-  moving_all {m} {i} {v} {now} h b ei e M = over_is (to_last t (take m old)) old (to_last_length (take m old) t m long h) b kept (λ q u. go q u (to_last_from (take m old) t m long h q u))
-    where
-      long : length (take m old) ≡ m
-      long = length-take-le m old b
-
-      kept : Kept m old (set now (m - 1) v)
-      kept =
-          record {
-            long = length-set now (m - 1) v ∙ M.long;
-            rest = λ q u. get_or-set_other now (m - 1) q v 0 (λ z. omega arith) ∙ M.behind q (omega arith);
-          }
-
-      -- the first `m` places, by where what stands there comes from
-      comes : (q j : ℕ) → q < m → From t m q j → Dec (q < t) → at (set now (m - 1) v) q ≡ at old j
-      comes q j u (inl a) (yes d) = let z : j ≡ q = omega arith in get_or-set_other now (m - 1) q v 0 (λ w. omega arith) ∙ M.before q d ∙ ap (at old) (sym z)
-      comes q j u (inl a) (no d) = let z : j ≡ q + 1 = omega arith in get_or-set_other now (m - 1) q v 0 (λ w. omega arith) ∙ M.moved q (omega arith) (omega arith) ∙ ap (at old) (sym z)
-      comes q j u (inr a) d = let z : q ≡ m - 1 = omega (arith, a.0) in ap (at (set now (m - 1) v)) z ∙ get_or-set_same now (m - 1) v 0 (omega (arith, M.long)) ∙ e ∙ ap (at old) (sym a.1)
-
-      go : (q : ℕ) → q < m → ((j : ℕ) × From t m q j × (at (to_last t (take m old)) q ≡ at (take m old) j)) → at (set now (m - 1) v) q ≡ at (to_last t (take m old)) q
-      go q u a = comes q a.0 u a.1 (dec_lt q t) ∙ sym (get_or-take m old a.0 0 (within a.1)) ∙ sym a.2
-        where
-          within : {j : ℕ} → From t m q j → j < m
-          within (inl a) = omega arith
-          within (inr a) = omega arith
+-- What stands behind place `t` goes one place to the front, and what stood there to the last of `m` places.
+pub last_moved : (t m : ℕ) (l : List ℕ) → t < m → m ≤ length l → set (copy_within l (t + 1) m t) (m - 1) (at l t) ≡ over (to_last t (take m l)) l
+unfolding to_last
+last_moved t m l h b =
+    let behind = between (t + 1) m l in
+    let n : t + length behind ≡ m - 1 = omega (arith, between_length (t + 1) m l b) in
+    let front : take t l ≡ take t (take m l) = sym (take-take t m l (omega arith)) in
+    let back : behind ≡ drop (suc t) (take m l) = between_is l (t + 1) m ∙ ap (λ (k : ℕ). drop k (take m l)) (add-one t) in
+    ap (λ (j : List ℕ). set j (m - 1) (at l t)) (moved l (t + 1) m t b)
+    ∙ put_more t behind l (m - 1) (at l t) (sym n) (omega arith)
+    ∙ put_is_over t (behind ++ (at l t ∷ [])) l (omega arith)
+    ∙ ap (λ (j : List ℕ). over j l) (
+    sym (append_assoc (take t l) behind (at l t ∷ []))
+    ∙ ap₂ (λ (a b : List ℕ). (a ++ b) ++ (at l t ∷ [])) front back
+    ∙ ap (λ (x : ℕ). (take t (take m l) ++ drop (suc t) (take m l)) ++ (x ∷ [])) (sym (get_or-take m l t 0 h))
+    )

@@ -1,10 +1,9 @@
 -- What a replacement replies, in the paper's words. Rests on `register` and `judge`.
-use Rattle.std.specs.Prelude.{ℕ}
+use Rattle.std.specs.Prelude.{ℕ, Result, Ok, Err}
+use Rattle.register.specs.declared.Refusal.{Refusal}
 use Rattle.register.specs.Reply.{number}
 use Rattle.judge.specs.declared.Judgment.{Judgment}
 use Rattle.judge.specs.declared.Judgment.TheVariants.{Singular, Permuted, Elimination}
-use Rattle.replace.specs.declared.Replaced.{Replaced}
-use Rattle.replace.specs.declared.Replaced.TheVariants as replaced
 
 -- The answer in the paper's words: a refusal by its number, or one of the three verdicts.
 pub data Answer : Type 0 where
@@ -38,6 +37,6 @@ said Singular = singular
 said Permuted = permuted
 said (Elimination bump eta_count) = elimination bump eta_count
 
-abbrev pub reply : Replaced → Reply
-reply (replaced.Refused r) = refused (number r)
-reply (replaced.Given j) = said j
+abbrev pub reply : Result Judgment Refusal → Reply
+reply (Err r) = refused (number r)
+reply (Ok j) = said j

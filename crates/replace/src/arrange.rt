@@ -14,10 +14,8 @@ pub fn lay_order(m: usize, places: &[u16; Register::MAX_SIZE], numbers: &mut [u1
     requires { (m ≤ max_size) × (m ≤ length numbers.old) × ((x : ℕ) → x < m → at places.now x < m) }
     ensures { (order : List ℕ) → length order ≡ m → Placed m (at order) places.now → numbers.new ≡ over order numbers.old }
 {
-    let mut x = 0;
-    while x < m {
-        numbers[wide(places[x])] = x as u16;
-        x += 1;
+    for (x, place) in places[..m].iter().enumerate() {
+        numbers[wide(*place)] = x as u16;
     }
 }
 
@@ -27,10 +25,6 @@ pub fn move_last(m: usize, t: usize, list: &mut [u16])
     ensures { list.new ≡ over (to_last t (take m list.old)) list.old }
 {
     let x = list[t];
-    let mut i = t + 1;
-    while i < m {
-        list[i - 1] = list[i];
-        i += 1;
-    }
+    list.copy_within(t + 1..m, t);
     list[m - 1] = x;
 }

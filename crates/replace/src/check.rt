@@ -15,7 +15,7 @@ ghost use Rattle.replace.specs.ReplaceChecks.{new_total, ColumnChecks, CallFault
 use listing::listing::rising;
 use listing::wide::wide;
 use register::check::check;
-use register::{Checked, Refusal, Register};
+use register::{Refusal, Register};
 
 // Check 8: the total with n new rows in the stead of column c's.
 fn fits(m: usize, cs: &[u16], cr: &[u16], rc: &[u16], c: usize, n: usize) -> bool
@@ -36,20 +36,27 @@ fn fits(m: usize, cs: &[u16], cr: &[u16], rc: &[u16], c: usize, n: usize) -> boo
 }
 
 // Checks 6 to 8. New rows that rise below m are at most m.
-fn column_fault(m: usize, cs: &[u16], cr: &[u16], rc: &[u16], c: usize, new: &[u16]) -> Checked
+fn column_fault(
+    m: usize,
+    cs: &[u16],
+    cr: &[u16],
+    rc: &[u16],
+    c: usize,
+    new: &[u16],
+) -> Result<(), Refusal>
     requires { (m ≤ max_size) × (m < length cs.now) × Starts m cs.now }
     ensures { ColumnChecks m c new.now cs.now cr.now rc.now (λ n. n) (λ n. n ≡ 0) (fault result) }
 {
     if m <= c {
-        return Checked::Refused(Refusal::ColumnNumber);
+        return Err(Refusal::ColumnNumber);
     }
     if !rising(m, new) {
-        return Checked::Refused(Refusal::NewColumn);
+        return Err(Refusal::NewColumn);
     }
     if !fits(m, cs, cr, rc, c, new.len()) {
-        return Checked::Refused(Refusal::NoRoom);
+        return Err(Refusal::NoRoom);
     }
-    Checked::Sound
+    Ok(())
 }
 
 // Checks 1 to 8. A size over the limit comes before a short eta list; where the size is 0, no list is short.
@@ -67,7 +74,7 @@ pub fn check_call(
     next: &mut [u16; Register::MAX_SIZE],
     places: &mut [u16; Register::MAX_SIZE],
     tops: &mut [u16; Register::MAX_SIZE],
-) -> Checked
+) -> Result<(), Refusal>
     requires { (length next.old ≡ max_size) × (length places.old ≡ max_size) × (length tops.old ≡ max_size) }
     ensures call_fault { CallFault
         (call m (lists cs.now cr.now rs.now rc.now or.now oc.now)
@@ -76,14 +83,11 @@ pub fn check_call(
     ensures places_known { fault result ≡ 0 → PlacesKnown m (at or.now) (at oc.now) next.new places.new tops.new }
 {
     if Register::MAX_SIZE < m {
-        return Checked::Refused(Refusal::Size);
+        return Err(Refusal::Size);
     }
     if eta.len() < m {
-        return Checked::Refused(Refusal::ShortList);
+        return Err(Refusal::ShortList);
     }
-    let checked = check(m, cs, cr, rs, rc, or, oc, next, places, tops);
-    if let Checked::Sound = checked {
-        return column_fault(m, cs, cr, rc, c, new);
-    }
-    checked
+    check(m, cs, cr, rs, rc, or, oc, next, places, tops)?;
+    column_fault(m, cs, cr, rc, c, new)
 }

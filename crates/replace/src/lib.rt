@@ -15,14 +15,7 @@ ghost use Rattle.replace.specs.Reply.{reply};
 use crate::change::change;
 use crate::check::check_call;
 use judge::Judgment;
-use register::{Checked, Refusal, Register};
-
-// What a replacement replies.
-#[derive(Drop)]
-pub enum Replaced {
-    Refused(Refusal),
-    Given(Judgment),
-}
+use register::{Refusal, Register};
 
 // Replaces one column by the new rows, after the build paper's checks 1 to 8. The three scratch lists are lent to the checks, which
 // leave the places of rows and columns there, and then to the change.
@@ -37,7 +30,7 @@ pub fn replace(
     column: usize,
     new_rows: &[u16],
     eta: &mut [u16],
-) -> Replaced
+) -> Result<Judgment, Refusal>
     ensures { Replaces
         (call size
         (lists col_starts.old col_rows.old row_starts.old row_cols.old
@@ -51,7 +44,7 @@ pub fn replace(
     let mut work = [0u16; Register::MAX_SIZE];
     let mut places = [0u16; Register::MAX_SIZE];
     let mut old = [0u16; Register::MAX_SIZE];
-    let checked = check_call(
+    check_call(
         size,
         col_starts,
         col_rows,
@@ -65,11 +58,8 @@ pub fn replace(
         &mut work,
         &mut places,
         &mut old,
-    );
-    if let Checked::Refused(why) = checked {
-        return Replaced::Refused(why);
-    }
-    Replaced::Given(change(
+    )?;
+    Ok(change(
         size,
         col_starts,
         col_rows,

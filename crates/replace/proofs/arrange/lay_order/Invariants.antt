@@ -1,11 +1,7 @@
 -- `lay_order`: the numbers below x stand at their places.
-use Prim.Native.Nat.{◌-◌, ◌≤◌}
 use Rattle.pattern.specs.Places.{at}
 use Rattle.replace.proofs.Arranging.{LayingAt}
 use Rattle.replace.proofs.arrange.lay_order.Given as goal
 
 abbrev pub invariant-loop-x : goal.invariant-loop-x
-invariant-loop-x l = (l.x ≤ l.m) × LayingAt l.m (at l.places) l.x l.initial.numbers l.numbers
-
-abbrev pub decreases-loop-x : goal.decreases-loop-x
-decreases-loop-x l = l.m - l.x
+invariant-loop-x l = LayingAt l.m (at l.places) l.x l.initial.numbers l.numbers
