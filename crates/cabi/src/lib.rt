@@ -14,8 +14,8 @@ ghost use Rattle.cabi.specs.Code.{code};
 ghost use Rattle.cabi.specs.Replace.{Gives};
 
 use judge::Judgment;
-use register::{Checked, Register};
-use replace::{Replaced, replace};
+use register::{Refusal, Register};
+use replace::replace;
 
 // A replacement's reply as three numbers.
 #[derive(Drop)]
@@ -37,19 +37,17 @@ fn plain(res: usize) -> Told
 }
 
 // The register's reply, by C's numbers.
-fn tell(replaced: Replaced) -> Told
+fn tell(replaced: Result<Judgment, Refusal>) -> Told
     ensures { (result.result ≡ code (reply replaced).answer) × (result.bump ≡ (reply replaced).bump) × (result.eta_count ≡ (reply replaced).eta_count) }
 {
     match replaced {
-        Replaced::Refused(refusal) => plain(refusal.number()),
-        Replaced::Given(judgment) => match judgment {
-            Judgment::Singular => plain(100),
-            Judgment::Permuted => plain(101),
-            Judgment::Elimination { bump, eta_count } => Told {
-                result: 102,
-                bump,
-                eta_count,
-            },
+        Err(refusal) => plain(refusal.number()),
+        Ok(Judgment::Singular) => plain(100),
+        Ok(Judgment::Permuted) => plain(101),
+        Ok(Judgment::Elimination { bump, eta_count }) => Told {
+            result: 102,
+            bump,
+            eta_count,
         },
     }
 }
@@ -74,8 +72,8 @@ pub extern "C" fn scrollbobbin_check(
         col_starts, col_rows, row_starts, row_cols, order_rows, order_cols,
     );
     match checked {
-        Checked::Sound => 0,
-        Checked::Refused(refusal) => refusal.number(),
+        Ok(()) => 0,
+        Err(refusal) => refusal.number(),
     }
 }
 

@@ -2,7 +2,7 @@
 ghost use Rattle.register.specs.Lent.{lists};
 ghost use Rattle.cabi.specs.Sheets.{GivesSheet, GivesRegister};
 
-use sheet::{Filled, Written, read_sheet, write_sheet};
+use sheet::{read_sheet, write_sheet};
 
 // Writes the sheet of a register to the head of the bytes, or refuses.
 #[unsafe(no_mangle)]
@@ -27,13 +27,13 @@ pub extern "C" fn scrollbobbin_write_sheet(
         size, col_starts, col_rows, row_starts, row_cols, order_rows, order_cols, bytes,
     );
     match written {
-        Written::Refused(refusal) => {
-            *count = 0;
-            refusal.number()
-        }
-        Written::Count(n) => {
+        Ok(n) => {
             *count = n;
             0
+        }
+        Err(refusal) => {
+            *count = 0;
+            refusal.number()
         }
     }
 }
@@ -62,13 +62,13 @@ pub extern "C" fn scrollbobbin_read_sheet(
         bytes, col_starts, col_rows, row_starts, row_cols, order_rows, order_cols,
     );
     match filled {
-        Filled::Refused(refusal) => {
-            *size = 0;
-            refusal.number()
-        }
-        Filled::Size(m) => {
+        Ok(m) => {
             *size = m;
             0
+        }
+        Err(refusal) => {
+            *size = 0;
+            refusal.number()
         }
     }
 }
