@@ -1,16 +1,11 @@
--- The eta rows in a reply line, where there are none and some. Rests on specs/Replies.antt.
+-- The eta rows in a reply line, where there are none. Rests on specs/Replies.antt.
 use mathlib.Core.List.{List, [], ◌∷◌}
 use mathlib.Core.Path.{◌≡◌, refl}
 use Prim.Native.Nat.{ℕ}
 use native.Mathlib.Omega.{arith}
 use lib.ListN.{length}
-use Rattle.text.specs.Text.{spaced}
 use Rattle.replies.specs.Replies.{none_word, eta_text}
 
 pub eta_none : (l : List ℕ) → length l ≡ 0 → eta_text l ≡ none_word
 eta_none [] e = refl
 eta_none (r ∷ l) e = absurd (omega arith)
-
-pub eta_some : (l : List ℕ) → (length l ≡ 0 → ⊥) → eta_text l ≡ spaced l
-eta_some [] h = absurd (h refl)
-eta_some (r ∷ l) h = refl

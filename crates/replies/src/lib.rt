@@ -14,7 +14,7 @@ ghost use Rattle.replies.specs.Replies.{bad_line, start_refused, numbered, eta_t
 
 use crate::places::put_places;
 use judge::Judgment;
-use replace::Replaced;
+use register::Refusal;
 use text::write::{put_byte, put_numbers, put_spaced, put_word};
 
 // No reply line has more bytes.
@@ -72,7 +72,7 @@ fn put_eta(eta: &[u16], out: &mut [u8], place: usize) -> usize
     requires { place + length (eta_text eta.now) ≤ length out.old }
     ensures { Puts place (eta_text eta.now) out.old result out.new }
 {
-    if eta.len() == 0 {
+    if eta.is_empty() {
         return put_word(&NONE, out, place);
     }
     put_numbers(eta, out, place)
@@ -155,7 +155,7 @@ fn put_judgment(
 pub fn put_reply(
     m: usize,
     column: usize,
-    replaced: Replaced,
+    replaced: Result<Judgment, Refusal>,
     rows: &[u16],
     cols: &[u16],
     eta: &[u16],
@@ -169,7 +169,7 @@ pub fn put_reply(
     let mut at = put_word(&PUT, out, place);
     at = put_spaced(column, out, at);
     match replaced {
-        Replaced::Refused(refusal) => put_numbered(&REFUSED, refusal.number(), out, at),
-        Replaced::Given(judgment) => put_judgment(judgment, m, rows, cols, eta, out, at),
+        Err(refusal) => put_numbered(&REFUSED, refusal.number(), out, at),
+        Ok(judgment) => put_judgment(judgment, m, rows, cols, eta, out, at),
     }
 }

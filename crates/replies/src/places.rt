@@ -12,10 +12,8 @@ pub fn put_places(m: usize, rows: &[u16], cols: &[u16], out: &mut [u8], place: u
     ensures { Puts place (places_text (pairs m rows.now cols.now)) out.old result out.new }
 {
     let mut at = place;
-    let mut t = 0;
-    while t < m {
-        at = put_place(rows[t] as usize, cols[t] as usize, out, at);
-        t += 1;
+    for (row, col) in rows[..m].iter().zip(&cols[..m]) {
+        at = put_place(usize::from(*row), usize::from(*col), out, at);
     }
     at
 }

@@ -2,7 +2,6 @@
 pub mod Makings
 pub mod PutSteps
 pub mod ColCounts
-pub mod Fitting
 pub mod Opening
 pub mod ColSteps
 pub mod OneLine

@@ -1,6 +1,6 @@
 -- What a step of a run makes, for the contracts of the steps of `bytes` and of the turns. Rests on Turns.antt, `text` and
 -- `replies`.
-use Rattle.std.specs.Prelude.{List, ◌∷◌, ◌≢◌, ◌≡◌, ℕ, ◌+◌, ◌≤◌, ◌<◌, length}
+use Rattle.std.specs.Prelude.{List, ◌∷◌, ◌≡◌, ℕ, ◌+◌, ◌≤◌, ◌<◌, length, Option, Some, None}
 use Rattle.text.specs.Puts.{Puts}
 use Rattle.text.specs.Text.{max_count, max_line, Speaks}
 use Rattle.replies.specs.Replies.{max_reply}
@@ -20,7 +20,7 @@ pub record Makes (Does : After → Type 0) (place : ℕ) (out : List ℕ) (r' : 
   pub does : Does (after r' said)
   pub puts : Puts place said out next out'
 
--- How many numbers the line 'col c rows' has; 0 where it is no such line.
-pub record ColCount (line : List ℕ) (c n : ℕ) : Type 0 where
-  pub in_turn : n ≢ 0 → (rows : List ℕ) × Speaks line col_word (c ∷ rows) × (n ≡ length (c ∷ rows))
-  pub none : n ≡ 0 → (rows : List ℕ) → ¬ Speaks line col_word (c ∷ rows)
+-- How many numbers the line 'col c rows' has; or that it is no such line.
+abbrev pub ColCount : (line : List ℕ) (c : ℕ) → Option ℕ → Type 0
+ColCount line c (Some n) = (rows : List ℕ) × Speaks line col_word (c ∷ rows) × (n ≡ length (c ∷ rows))
+ColCount line c None = (rows : List ℕ) → ¬ Speaks line col_word (c ∷ rows)

@@ -13,24 +13,20 @@ ghost use Rattle.turns.specs.declared.Turn.TheVariants as turn;
 use crate::steps::{bad, next_line, refuse};
 use crate::{State, Step, Turn};
 use listing::lists::copy;
-use register::{Checked, Register};
+use register::Register;
 use text::lines::{Heard, hear, keep};
 
 const COL: [u8; 3] = *b"col";
 
-// How many numbers the line 'col c rows' of this column has, its own number among them; 0 where it is no such line.
-fn col_count(line: &[u8], column: usize) -> usize
+// How many numbers the line 'col c rows' of this column has, its own number among them.
+fn col_count(line: &[u8], column: usize) -> Option<usize>
     ensures { ColCount line.now column result }
 {
-    match hear(line, &COL) {
-        Heard::Nothing => 0,
-        Heard::Numbers { first, count } => {
-            if first != column {
-                return 0;
-            }
-            count
-        }
+    let Heard { first, count } = hear(line, &COL)?;
+    if count == 0 || first != column {
+        return None;
     }
+    Some(count)
 }
 
 // The rows of a column go behind those before them, where they fit; replies whether they do.
@@ -81,8 +77,8 @@ fn open(
         return refuse(state, 3, out, place);
     }
     match (Register { size }).start(cs, cr, rs, rc, or, oc) {
-        Checked::Refused(refusal) => refuse(state, refusal.number(), out, place),
-        Checked::Sound => Step {
+        Err(refusal) => refuse(state, refusal.number(), out, place),
+        Ok(()) => Step {
             state: next_line(state, Turn::Put { size }),
             next: place,
         },
@@ -117,12 +113,11 @@ pub fn col_line(
         (lent (lists cs.new cr.new rs.new rc.new or.new oc.new)
         eta numbers.new line.now)) result.next out.new }
 {
-    let used = state.used;
-    let count = col_count(&line[..used], column);
-    if count == 0 {
+    let line = &line[..state.used];
+    let Some(count) = col_count(line, column) else {
         return bad(state, out, place);
-    }
-    keep(&line[..used], &COL, numbers);
+    };
+    keep(line, &COL, numbers);
     let now_fits = store(fits, column, &numbers[1..count], cs, cr);
     if column + 1 < size {
         return Step {

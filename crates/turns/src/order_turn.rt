@@ -20,31 +20,25 @@ pub fn order_line(state: State, line: &[u8], cs: &mut [u16], out: &mut [u8], pla
         place out.old
         (run result.state (lent (lists cs.new cr rs rc or oc) eta numbers line.now)) result.next out.new }
 {
-    let used = state.used;
-    match hear(&line[..used], &ORDER) {
-        Heard::Nothing => bad(state, out, place),
-        Heard::Numbers { first, count } => {
-            if count != 1 {
-                return bad(state, out, place);
-            }
-            if first == 0 {
-                return refuse(state, 1, out, place);
-            }
-            if Register::MAX_SIZE < first {
-                return refuse(state, 1, out, place);
-            }
-            cs[0] = 0;
-            Step {
-                state: next_line(
-                    state,
-                    Turn::Column {
-                        size: first,
-                        column: 0,
-                        fits: true,
-                    },
-                ),
-                next: place,
-            }
-        }
+    let Some(Heard { first: size, count }) = hear(&line[..state.used], &ORDER) else {
+        return bad(state, out, place);
+    };
+    if count != 1 {
+        return bad(state, out, place);
+    }
+    if size == 0 || Register::MAX_SIZE < size {
+        return refuse(state, 1, out, place);
+    }
+    cs[0] = 0;
+    Step {
+        state: next_line(
+            state,
+            Turn::Column {
+                size,
+                column: 0,
+                fits: true,
+            },
+        ),
+        next: place,
     }
 }

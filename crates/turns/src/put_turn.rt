@@ -40,19 +40,34 @@ pub fn put_line(
         (lent (lists cs.new cr.new rs.new rc.new or.new oc.new)
         eta.new numbers.new line.now)) result.next out.new }
 {
-    let used = state.used;
-    match hear(&line[..used], &PUT) {
-        Heard::Nothing => bad(state, out, place),
-        Heard::Numbers { first, count } => {
-            if count == 0 {
-                return bad(state, out, place);
-            }
-            keep(&line[..used], &PUT, numbers);
-            let replaced = replace(size, cs, cr, rs, rc, or, oc, first, &numbers[1..count], eta);
-            Step {
-                state: next_line(state, Turn::Put { size }),
-                next: put_reply(size, first, replaced, or, oc, eta, out, place),
-            }
-        }
+    let line = &line[..state.used];
+    let Some(
+        Heard {
+            first: column,
+            count,
+        },
+    ) = hear(line, &PUT)
+    else {
+        return bad(state, out, place);
+    };
+    if count == 0 {
+        return bad(state, out, place);
+    }
+    keep(line, &PUT, numbers);
+    let replaced = replace(
+        size,
+        cs,
+        cr,
+        rs,
+        rc,
+        or,
+        oc,
+        column,
+        &numbers[1..count],
+        eta,
+    );
+    Step {
+        state: next_line(state, Turn::Put { size }),
+        next: put_reply(size, column, replaced, or, oc, eta, out, place),
     }
 }

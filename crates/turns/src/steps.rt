@@ -15,8 +15,7 @@ fn ended(state: State) -> State
 {
     State {
         turn: Turn::Ended,
-        number: state.number,
-        used: state.used,
+        ..state
     }
 }
 

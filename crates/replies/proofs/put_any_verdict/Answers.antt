@@ -8,6 +8,3 @@ pub put_verdict-requires : goal.put_verdict-requires
 put_verdict-requires c =
     let few = verdict_few c.args.word.now c.args.bump c.requires.0 (omega (arith, c.ranges.bump)) c.requires.1 (λ i h. omega (arith, c.type_inv.rows i)) (λ i h. omega (arith, c.type_inv.cols i)) (λ i h. omega (arith, c.type_inv.eta i)) in
     (c.requires.1.in_rows, c.requires.1.in_cols, omega (arith, few, c.requires.2))
-
-pub returns : goal.returns
-returns c = c.put_verdict.ensures

@@ -1,25 +1,20 @@
 -- `put_eta`: nothing or something to be put.
-use mathlib.Core.Path.{ap}
+use mathlib.Core.Path.{◌≡◌, ap}
 use native.Mathlib.Omega.{arith}
 use lib.ListN.{length}
-use Rattle.replies.specs.Replies.{none_word}
-use Rattle.replies.proofs.EtaTexts.{eta_none, eta_some}
+use Rattle.std.proofs.lemmas.Bool.Decides.{nat_tests}
+use Rattle.replies.specs.Replies.{none_word, eta_text}
+use Rattle.replies.proofs.EtaTexts.{eta_none}
 use Rattle.replies.proofs.put_eta.Goals as goal
+use Rattle.replies.proofs.put_eta.Goals.{Then-is_empty}
+
+none : (c : Then-is_empty) → eta_text c.args.eta.now ≡ none_word
+none c = let e : length c.args.eta.now ≡ 0 = grind (arith, nat_tests, c.if-is_empty.ensures) in eta_none c.args.eta.now e
 
 pub put_word-requires : goal.put_word-requires
 unfolding none_word
-put_word-requires c =
-    omega (arith, c.requires, ap length (eta_none c.args.eta.now c.if-eta-eq0.true))
+put_word-requires c = omega (arith, c.requires, ap length (none (goal.at.put_word-requires c).Then-is_empty))
 
-pub returns-then-eta-eq0 : goal.returns-then-eta-eq0
+pub returns-then-is_empty : goal.returns-then-is_empty
 unfolding none_word
-returns-then-eta-eq0 c =
-    rw (eta_none _ c.if-eta-eq0.true) c.put_word.ensures
-
-pub put_numbers-requires : goal.put_numbers-requires
-put_numbers-requires c =
-    omega (arith, c.requires, ap length (eta_some c.args.eta.now c.if-eta-eq0.false))
-
-pub returns : goal.returns
-returns c =
-    rw (eta_some _ c.if-eta-eq0.false) c.put_numbers.ensures
+returns-then-is_empty c = rw (none (goal.at.returns-then-is_empty c).Then-is_empty) c.put_word.ensures

@@ -43,14 +43,14 @@ put_numbered-requires c =
 
 pub put_judgment-requires : goal.put_judgment-requires
 put_judgment-requires c =
-    (subst (λ x. Printable c.args.m (reply x) c.args.rows.now c.args.cols.now c.args.eta.now) c.in-Given.is c.requires.1, room (goal.at.put_judgment-requires c).After-put_spaced-at)
+    (subst (λ x. Printable c.args.m (reply x) c.args.rows.now c.args.cols.now c.args.eta.now) c.in-Ok.is c.requires.1, room (goal.at.put_judgment-requires c).After-put_spaced-at)
 
-pub returns-in-Refused : goal.returns-in-Refused
+pub returns-in-Err : goal.returns-in-Err
 unfolding put_word refused_word
-returns-in-Refused c =
-    rw c.in-Refused.is (puts_both (omega (arith, c.requires.2)) (opened (goal.at.returns-in-Refused c).After-put_spaced-at) (rw c.number.ensures at c.put_numbered.ensures))
+returns-in-Err c =
+    rw c.in-Err.is (puts_both (omega (arith, c.requires.2)) (opened (goal.at.returns-in-Err c).After-put_spaced-at) (rw c.number.ensures at c.put_numbered.ensures))
 
-pub returns-in-Given : goal.returns-in-Given
+pub returns-in-Ok : goal.returns-in-Ok
 unfolding put_word
-returns-in-Given c =
-    rw c.in-Given.is (puts_both (omega (arith, c.requires.2)) (opened (goal.at.returns-in-Given c).After-put_spaced-at) c.put_judgment.ensures)
+returns-in-Ok c =
+    rw c.in-Ok.is (puts_both (omega (arith, c.requires.2)) (opened (goal.at.returns-in-Ok c).After-put_spaced-at) c.put_judgment.ensures)

@@ -54,9 +54,6 @@ module _ (p : After-put_places-at) where
   six : Done (goal.at.After-put_places-at p).Start 6 p.put_places-at.result p.put_places-at.new.out
   six = part_put (five (goal.at.After-put_places-at p).After-put_word-at-3) p.put_places-at.ensures
 
-pub put_spaced-at-requires : goal.put_spaced-at-requires
-put_spaced-at-requires c = part_room (one (goal.at.put_spaced-at-requires c).After-put_word-at)
-
 pub put_word-at-requires-2 : goal.put_word-at-requires-2
 unfolding eta_word
 put_word-at-requires-2 c = part_room (two (goal.at.put_word-at-requires-2 c).After-put_spaced-at)
@@ -77,6 +74,3 @@ put_byte-requires c = part_room (six (goal.at.put_byte-requires c).After-put_pla
 
 pub returns : goal.returns
 returns c = all_put (part_put (six (goal.at.returns c).After-put_places-at) c.put_byte.ensures)
-
-pub put_word-at-requires : goal.put_word-at-requires
-put_word-at-requires c = part_room (none (goal.at.put_word-at-requires c).Start)

@@ -12,10 +12,6 @@ module _ (s : Start) where
   parts : Left s.args.place (start_refused s.args.n) s.args.out.now (start_word ∷ numbered refused_word s.args.n ∷ []) s.args.place s.args.out.now
   parts = none_put _ refl (omega (arith, s.requires, start_refused_few s.args.n (omega (arith, s.ranges.n))))
 
-pub put_word-at-requires : goal.put_word-at-requires
-unfolding start_word
-put_word-at-requires c = part_room (parts (goal.at.put_word-at-requires c).Start)
-
 pub put_numbered-requires : goal.put_numbered-requires
 unfolding start_word refused_word
 put_numbered-requires c =

@@ -1,7 +1,7 @@
 -- `col_line`: the numbers of the column's line are kept, those behind the first are stored as its rows, and the next column is
 -- wanted or the desk is opened.
 use mathlib.Core.List.{List, [], ◌∷◌}
-use mathlib.Core.Path.{◌≡◌, sym, ap}
+use mathlib.Core.Path.{◌≡◌, ap}
 use Prim.Native.Nat.{ℕ, ◌-◌, ◌≤◌}
 use native.Mathlib.Omega.{arith}
 use lib.ListN.{length, take, drop}
@@ -11,9 +11,9 @@ use Rattle.text.proofs.Kept.{kept_few, kept_rows}
 use Rattle.register.specs.Lent.{Lists, lists}
 use Rattle.turns.specs.Turns.{col_word, Run, run, lent, line_so_far}
 use Rattle.turns.proofs.ColSteps.{ColStored, col_goes_on, col_opens}
-use Rattle.turns.proofs.Makings.{puts_none, steady_length, makes_bad}
+use Rattle.turns.proofs.Makings.{puts_none, steady_length}
 use Rattle.turns.proofs.col_turn.col_line.Goals as goal
-use Rattle.turns.proofs.col_turn.col_line.Goals.{After-keep, After-store-now_fits, Else-count-eq0, Start}
+use Rattle.turns.proofs.col_turn.col_line.Goals.{After-keep, After-store-now_fits, In-Some, Start}
 
 module _ (s : Start) where
   -- The run before the line.
@@ -26,23 +26,19 @@ module _ (s : Start) where
   line_long : length (line_so_far (begun [])) ≡ s.args.state.used
   line_long = steady_length s.requires.0
 
-pub returns-then-count-eq0 : goal.returns-then-count-eq0
-returns-then-count-eq0 c eta =
-    makes_bad (begun (goal.at.returns-then-count-eq0 c).Start eta) (c.col_count-count.ensures.none c.if-count-eq0.true) c.bad.ensures.0 c.bad.ensures.1
-
 -- The line is the column's.
-module _ (c : Else-count-eq0) where
+module _ (c : In-Some) where
   abbrev start : Start
-  start = (goal.at.Else-count-eq0 c).Start
+  start = (goal.at.In-Some c).Start
 
   abbrev column : ℕ
   column = c.args.column
 
   abbrev count : ℕ
-  count = c.col_count-count.result
+  count = c.in-Some.count
 
   found : (rows : List ℕ) × Speaks (line_so_far (begun start [])) col_word (column ∷ rows) × (count ≡ length (column ∷ rows))
-  found = c.col_count-count.ensures.in_turn c.if-count-eq0.false
+  found = c.in-Some.ensures
 
   few : count ≤ max_numbers
   few = omega (arith, found.2, kept_few (omega (arith, line_long start, c.requires.0.line_short)) found.1)
@@ -50,34 +46,34 @@ module _ (c : Else-count-eq0) where
 pub keep-requires : goal.keep-requires
 unfolding col_word
 keep-requires c =
-    let else_count_eq0 = (goal.at.keep-requires c).Else-count-eq0 in
-    (omega (arith, line_long (goal.at.keep-requires c).Start, c.requires.0.line_short), c.requires.3, (column else_count_eq0 ∷ (found else_count_eq0).0, (found else_count_eq0).1))
+    let counted = (goal.at.keep-requires c).In-Some in
+    (omega (arith, line_long (goal.at.keep-requires c).Start, c.requires.0.line_short), c.requires.3, (column counted ∷ (found counted).0, (found counted).1))
 
 -- Its numbers are kept.
 module _ (c : After-keep) where
-  abbrev else_count_eq0 : Else-count-eq0
-  else_count_eq0 = (goal.at.After-keep c).Else-count-eq0
+  abbrev heard : In-Some
+  heard = (goal.at.After-keep c).In-Some
 
   abbrev numbers : List ℕ
   numbers = c.keep.new.numbers
 
-  kept : numbers ≡ over (column else_count_eq0 ∷ (found else_count_eq0).0) c.args.numbers.now
+  kept : numbers ≡ over (column heard ∷ (found heard).0) c.args.numbers.now
   unfolding col_word
-  kept = c.keep.ensures (column else_count_eq0 ∷ (found else_count_eq0).0) (found else_count_eq0).1
+  kept = c.keep.ensures (column heard ∷ (found heard).0) (found heard).1
 
-  rows_are : take (count else_count_eq0 - 1) (drop 1 numbers) ≡ (found else_count_eq0).0
-  rows_are = kept_rows (column else_count_eq0) (found else_count_eq0).0 c.args.numbers.now kept (found else_count_eq0).2
+  rows_are : take (count heard - 1) (drop 1 numbers) ≡ (found heard).0
+  rows_are = kept_rows (column heard) (found heard).0 c.args.numbers.now kept (found heard).2
 
 pub store-now_fits-requires : goal.store-now_fits-requires
 store-now_fits-requires c =
-    let else_count_eq0 = (goal.at.store-now_fits-requires c).Else-count-eq0 in
+    let counted = (goal.at.store-now_fits-requires c).In-Some in
     let p = c.requires in
-    (omega (arith, p.1, p.2, p.4.col_starts_fit), omega (arith, ap length (rows_are (goal.at.store-now_fits-requires c).After-keep), (found else_count_eq0).2, few else_count_eq0), omega (arith, p.4.col_rows_fit))
+    (omega (arith, p.1, p.2, p.4.col_starts_fit), omega (arith, ap length (rows_are (goal.at.store-now_fits-requires c).After-keep), (found counted).2, few counted), omega (arith, p.4.col_rows_fit))
 
 -- Its rows are stored, where they fit.
 module _ (c : After-store-now_fits) where
-  abbrev counted : Else-count-eq0
-  counted = (goal.at.After-store-now_fits c).Else-count-eq0
+  abbrev counted : In-Some
+  counted = (goal.at.After-store-now_fits c).In-Some
 
   abbrev after_keep : After-keep
   after_keep = (goal.at.After-store-now_fits c).After-keep
@@ -98,11 +94,6 @@ returns-then-column-size c eta =
     let a = c.args in
     col_goes_on (begun (goal.at.returns-then-column-size c).Start eta) a.size a.column a.fits (stored (goal.at.returns-then-column-size c).After-store-now_fits eta) c.if-column-size.true c.next_line.ensures (puts_none a.place a.out.now)
 
-pub open-requires : goal.open-requires
-open-requires c =
-    let p = c.requires.0 in
-    (p.countable, p.room)
-
 pub returns : goal.returns
 returns c eta =
     let after_store_now_fits = (goal.at.returns c).After-store-now_fits in
@@ -111,11 +102,5 @@ returns c eta =
     col_opens (begun (goal.at.returns c).Start eta) a.size a.column a.fits (stored after_store_now_fits eta) {l' = with_rows after_store_now_fits l.rs l.rc l.or l.oc} c.if-column-size.false
     (c.«open».ensures a.cs.now a.cr.now (a.column ∷ (stored after_store_now_fits eta).rows) eta a.numbers.now a.line.now)
 
-pub slice_bounds-col_count-end : goal.slice_bounds-col_count-end
-slice_bounds-col_count-end c = sym (line_long (goal.at.slice_bounds-col_count-end c).Start)
-
-pub slice_bounds-keep-end : goal.slice_bounds-keep-end
-slice_bounds-keep-end c = sym (line_long (goal.at.slice_bounds-keep-end c).Start)
-
 pub slice_bounds-store-end : goal.slice_bounds-store-end
-slice_bounds-store-end c = omega (arith, few (goal.at.slice_bounds-store-end c).Else-count-eq0)
+slice_bounds-store-end c = omega (arith, few (goal.at.slice_bounds-store-end c).In-Some)
