@@ -3,7 +3,7 @@
 use crate::report::check;
 use std::io;
 
-fn columns(rt: &impl Print, label: &[u8], starts: &[u16], rows: &[u16]) -> io::Result<()> {
+fn columns(rt: &impl Print, label: &str, starts: &[u16], rows: &[u16]) -> io::Result<()> {
     check(
         rt,
         label,
@@ -17,7 +17,7 @@ fn columns(rt: &impl Print, label: &[u8], starts: &[u16], rows: &[u16]) -> io::R
     )
 }
 
-fn rows(rt: &impl Print, label: &[u8], starts: &[u16], cols: &[u16]) -> io::Result<()> {
+fn rows(rt: &impl Print, label: &str, starts: &[u16], cols: &[u16]) -> io::Result<()> {
     check(
         rt,
         label,
@@ -31,7 +31,7 @@ fn rows(rt: &impl Print, label: &[u8], starts: &[u16], cols: &[u16]) -> io::Resu
     )
 }
 
-fn order(rt: &impl Print, label: &[u8], rows: &[u16], cols: &[u16]) -> io::Result<()> {
+fn order(rt: &impl Print, label: &str, rows: &[u16], cols: &[u16]) -> io::Result<()> {
     check(
         rt,
         label,
@@ -47,31 +47,31 @@ fn order(rt: &impl Print, label: &[u8], rows: &[u16], cols: &[u16]) -> io::Resul
 
 // Replies 0 and 2.
 pub fn short(rt: &impl Print) -> io::Result<()> {
-    order(rt, b"sound", &[0, 1], &[0, 1])?;
-    columns(rt, b"columns in longer lists", &[0, 1, 3, 9], &[0, 0, 1, 9])?;
-    rows(rt, b"rows in longer lists", &[0, 2, 3, 9], &[0, 1, 1, 9])?;
-    order(rt, b"order in longer lists", &[0, 1, 9], &[0, 1, 9])?;
-    columns(rt, b"empty lists for the columns", &[], &[])?;
-    rows(rt, b"empty lists for the rows", &[], &[])?;
-    order(rt, b"empty lists for the order", &[], &[])?;
-    columns(rt, b"two column starts", &[0, 1], &[0, 0, 1])?;
-    rows(rt, b"two row starts", &[0, 2], &[0, 1, 1])?;
-    order(rt, b"one row in the order", &[0], &[0, 1])?;
-    order(rt, b"one column in the order", &[0, 1], &[0])?;
+    order(rt, "sound", &[0, 1], &[0, 1])?;
+    columns(rt, "columns in longer lists", &[0, 1, 3, 9], &[0, 0, 1, 9])?;
+    rows(rt, "rows in longer lists", &[0, 2, 3, 9], &[0, 1, 1, 9])?;
+    order(rt, "order in longer lists", &[0, 1, 9], &[0, 1, 9])?;
+    columns(rt, "empty lists for the columns", &[], &[])?;
+    rows(rt, "empty lists for the rows", &[], &[])?;
+    order(rt, "empty lists for the order", &[], &[])?;
+    columns(rt, "two column starts", &[0, 1], &[0, 0, 1])?;
+    rows(rt, "two row starts", &[0, 2], &[0, 1, 1])?;
+    order(rt, "one row in the order", &[0], &[0, 1])?;
+    order(rt, "one column in the order", &[0, 1], &[0])?;
     columns(
         rt,
-        b"last column start past its list",
+        "last column start past its list",
         &[0, 1, 4],
         &[0, 0, 1],
     )?;
-    rows(rt, b"last row start past its list", &[0, 2, 4], &[0, 1, 1])
+    rows(rt, "last row start past its list", &[0, 2, 4], &[0, 1, 1])
 }
 
 // Check 2 is for both listings before check 3 for one.
 pub fn short_and_malformed(rt: &impl Print) -> io::Result<()> {
     check(
         rt,
-        b"the same, and malformed columns",
+        "the same, and malformed columns",
         2,
         &[1, 0, 3],
         &[0, 0, 1],
@@ -84,32 +84,32 @@ pub fn short_and_malformed(rt: &impl Print) -> io::Result<()> {
 
 // Reply 3.
 pub fn malformed(rt: &impl Print) -> io::Result<()> {
-    columns(rt, b"first start not 0", &[1, 1, 3], &[0, 0, 1])?;
-    rows(rt, b"starts that fall", &[0, 3, 2], &[0, 1, 1])?;
-    columns(rt, b"middle start past its list", &[0, 9, 3], &[0, 0, 1])?;
-    columns(rt, b"equal rows", &[0, 1, 3], &[0, 1, 1])?;
-    columns(rt, b"falling rows", &[0, 1, 3], &[0, 1, 0])?;
-    columns(rt, b"row number 2", &[0, 1, 3], &[0, 0, 2])?;
-    rows(rt, b"column number 2", &[0, 2, 3], &[0, 2, 1])
+    columns(rt, "first start not 0", &[1, 1, 3], &[0, 0, 1])?;
+    rows(rt, "starts that fall", &[0, 3, 2], &[0, 1, 1])?;
+    columns(rt, "middle start past its list", &[0, 9, 3], &[0, 0, 1])?;
+    columns(rt, "equal rows", &[0, 1, 3], &[0, 1, 1])?;
+    columns(rt, "falling rows", &[0, 1, 3], &[0, 1, 0])?;
+    columns(rt, "row number 2", &[0, 1, 3], &[0, 0, 2])?;
+    rows(rt, "column number 2", &[0, 2, 3], &[0, 2, 1])
 }
 
 // Reply 4, and reply 5 of the order alone.
 pub fn unsound(rt: &impl Print) -> io::Result<()> {
-    rows(rt, b"row listing lacks an entry", &[0, 1, 2], &[0, 1])?;
-    columns(rt, b"column listing lacks an entry", &[0, 1, 2], &[0, 1])?;
-    rows(rt, b"as many entries, others", &[0, 1, 3], &[1, 0, 1])?;
-    order(rt, b"a row twice in the order", &[0, 0], &[0, 1])?;
-    order(rt, b"a column twice in the order", &[0, 1], &[1, 1])?;
-    order(rt, b"row number 2 in the order", &[0, 2], &[0, 1])?;
-    order(rt, b"column number 2 in the order", &[0, 1], &[2, 1])?;
-    order(rt, b"the order turned round", &[1, 0], &[1, 0])
+    rows(rt, "row listing lacks an entry", &[0, 1, 2], &[0, 1])?;
+    columns(rt, "column listing lacks an entry", &[0, 1, 2], &[0, 1])?;
+    rows(rt, "as many entries, others", &[0, 1, 3], &[1, 0, 1])?;
+    order(rt, "a row twice in the order", &[0, 0], &[0, 1])?;
+    order(rt, "a column twice in the order", &[0, 1], &[1, 1])?;
+    order(rt, "row number 2 in the order", &[0, 2], &[0, 1])?;
+    order(rt, "column number 2 in the order", &[0, 1], &[2, 1])?;
+    order(rt, "the order turned round", &[1, 0], &[1, 0])
 }
 
 // Reply 5 of a pattern that has no such order.
 pub fn empty(rt: &impl Print) -> io::Result<()> {
     check(
         rt,
-        b"a pair that is no entry",
+        "a pair that is no entry",
         2,
         &[0, 1, 2],
         &[0, 0],
@@ -120,7 +120,7 @@ pub fn empty(rt: &impl Print) -> io::Result<()> {
     )?;
     check(
         rt,
-        b"an empty column",
+        "an empty column",
         2,
         &[0, 0, 2],
         &[0, 1],

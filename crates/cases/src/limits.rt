@@ -6,21 +6,17 @@ use register::Register;
 use std::io;
 
 // The lists of a register of size 1.
-fn size(rt: &impl Print, label: &[u8], m: usize) -> io::Result<()> {
+fn size(rt: &impl Print, label: &str, m: usize) -> io::Result<()> {
     check(rt, label, m, &[0, 1], &[0], &[0, 1], &[0], &[0], &[0])
 }
 
 pub fn sizes(rt: &impl Print) -> io::Result<()> {
-    size(rt, b"size 0", 0)?;
-    size(rt, b"size 1", 1)?;
-    size(rt, b"size 1,000 in short lists", 1000)?;
-    size(rt, b"size 1,001", 1001)?;
-    size(rt, b"size 65,536", 65536)?;
-    size(rt, b"size 65,537", 65537)
-}
-
-fn pick(test: bool, a: usize, b: usize) -> usize {
-    if test { a } else { b }
+    size(rt, "size 0", 0)?;
+    size(rt, "size 1", 1)?;
+    size(rt, "size 1,000 in short lists", 1000)?;
+    size(rt, "size 1,001", 1001)?;
+    size(rt, "size 65,536", 65536)?;
+    size(rt, "size 65,537", 65537)
 }
 
 // The numbers from a up to b go into the list from place n on, as far as it reaches; the next place.
@@ -29,13 +25,11 @@ fn run(list: &mut [u16; 12001], n: usize, a: usize, b: usize) -> usize
     ensures { result ≤ 12001 }
 {
     let mut at = n;
-    let mut x = a;
-    while x < b {
+    for x in a..b {
         if at < 12001 {
             list[at] = (x % 65536) as u16;
             at += 1;
         }
-        x += 1;
     }
     at
 }
@@ -43,12 +37,10 @@ fn run(list: &mut [u16; 12001], n: usize, a: usize, b: usize) -> usize
 // A full triangle of 148 columns, the diagonal behind it, and `more` further rows in column 999: 11,878 entries and `more`.
 fn columns(more: usize, starts: &mut [u16; 1001], rows: &mut [u16; 12001]) {
     let mut n = 0;
-    let mut c = 0;
-    while c < 1000 {
+    for c in 0..1000 {
         starts[c] = n as u16;
-        n = run(rows, n, 0, pick(c == 999, more, 0));
-        n = run(rows, n, pick(c < 148, 0, c), c + 1);
-        c += 1;
+        n = run(rows, n, 0, if c == 999 { more } else { 0 });
+        n = run(rows, n, if c < 148 { 0 } else { c }, c + 1);
     }
     starts[1000] = n as u16;
 }
@@ -56,12 +48,10 @@ fn columns(more: usize, starts: &mut [u16; 1001], rows: &mut [u16; 12001]) {
 // The same by rows.
 fn rows(more: usize, starts: &mut [u16; 1001], cols: &mut [u16; 12001]) {
     let mut n = 0;
-    let mut r = 0;
-    while r < 1000 {
+    for r in 0..1000 {
         starts[r] = n as u16;
-        n = run(cols, n, r, pick(r < 148, 148, r + 1));
-        n = run(cols, n, 999, pick(r < more, 1000, 999));
-        r += 1;
+        n = run(cols, n, r, if r < 148 { 148 } else { r + 1 });
+        n = run(cols, n, 999, if r < more { 1000 } else { 999 });
     }
     starts[1000] = n as u16;
 }
@@ -69,7 +59,7 @@ fn rows(more: usize, starts: &mut [u16; 1001], cols: &mut [u16; 12001]) {
 // A register of size 1,000 in the order t:t, with entry lists cut to the given length.
 fn cut(
     rt: &impl Print,
-    label: &[u8],
+    label: &str,
     cs: &[u16],
     cr: &[u16],
     rs: &[u16],
@@ -77,27 +67,25 @@ fn cut(
     length: usize,
 ) -> io::Result<()> {
     let order = Register::fresh_order();
-    if length <= cr.len() {
-        if length <= rc.len() {
-            check(
-                rt,
-                label,
-                1000,
-                cs,
-                &cr[0..length],
-                rs,
-                &rc[0..length],
-                &order,
-                &order,
-            )?;
-        }
+    if length <= cr.len() && length <= rc.len() {
+        check(
+            rt,
+            label,
+            1000,
+            cs,
+            &cr[..length],
+            rs,
+            &rc[..length],
+            &order,
+            &order,
+        )?;
     }
     Ok(())
 }
 
 fn whole(
     rt: &impl Print,
-    label: &[u8],
+    label: &str,
     cs: &[u16; 1001],
     cr: &[u16; 12001],
     rs: &[u16; 1001],
@@ -107,7 +95,7 @@ fn whole(
     cut(rt, label, cs, cr, rs, rc, length)
 }
 
-fn total(rt: &impl Print, label: &[u8], more: usize, length: usize) -> io::Result<()> {
+fn total(rt: &impl Print, label: &str, more: usize, length: usize) -> io::Result<()> {
     let mut cs = [0u16; 1001];
     let mut cr = [0u16; 12001];
     let mut rs = [0u16; 1001];
@@ -118,7 +106,7 @@ fn total(rt: &impl Print, label: &[u8], more: usize, length: usize) -> io::Resul
 }
 
 pub fn totals(rt: &impl Print) -> io::Result<()> {
-    total(rt, b"size 1,000, total 12,000", 122, 12000)?;
-    total(rt, b"total 12,001", 123, 12001)?;
-    total(rt, b"total 12,001 in 12,000 places", 123, 12000)
+    total(rt, "size 1,000, total 12,000", 122, 12000)?;
+    total(rt, "total 12,001", 123, 12001)?;
+    total(rt, "total 12,001 in 12,000 places", 123, 12000)
 }

@@ -1,16 +1,15 @@
 // One line of the report.
-use register::{Checked, Register};
+use register::Register;
 use std::io;
 
-pub fn line(rt: &impl Print, label: &[u8], number: usize) -> io::Result<()> {
-    rt.write_all(label)?;
-    println!(rt; ": {number}")
+pub fn line(rt: &impl Print, label: &str, number: usize) -> io::Result<()> {
+    println!(rt; "{label}: {number}")
 }
 
 // The number of a lent register's first fault, or 0.
 pub fn check(
     rt: &impl Print,
-    label: &[u8],
+    label: &str,
     m: usize,
     cs: &[u16],
     cr: &[u16],
@@ -20,7 +19,7 @@ pub fn check(
     oc: &[u16],
 ) -> io::Result<()> {
     match (Register { size: m }).check(cs, cr, rs, rc, or, oc) {
-        Checked::Sound => line(rt, label, 0),
-        Checked::Refused(refusal) => line(rt, label, refusal.number()),
+        Ok(()) => line(rt, label, 0),
+        Err(refusal) => line(rt, label, refusal.number()),
     }
 }

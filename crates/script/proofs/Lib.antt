@@ -3,10 +3,8 @@ pub mod OneByte
 pub mod Feeding
 pub mod Chunks
 pub mod Steadiness
-pub mod ByteMakings
 pub mod LentLengths
 pub mod Takings
-pub mod Closings
 pub mod Bounds
 pub mod Determined
 pub mod TwoLadders

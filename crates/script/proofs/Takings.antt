@@ -14,7 +14,7 @@ use Rattle.pattern.specs.Places.{at}
 use Rattle.text.specs.Puts.{Puts}
 use Rattle.text.proofs.Progress.{puts_both}
 use Rattle.replies.specs.Replies.{max_reply}
-use Rattle.turns.specs.Steps.{Steady, Makes}
+use Rattle.turns.specs.Steps.{Makes}
 use Rattle.turns.specs.Turns.{Run, After, after}
 use Rattle.turns.specs.declared.State.{State}
 use Rattle.turns.proofs.Makings.{puts_none}
@@ -60,10 +60,6 @@ module _ {r : Run} {chunk out : List ℕ} where
     taken_goes g = record { runs = g.0; fits = omega (arith, g.1, k.puts.after, k.out_long) }
 
     module _ (h : i < length chunk) where
-      -- What the step of the next byte asks for.
-      pub taken_asks : Going r'.state written (length out') → Steady r'.state r'.lent.line written out'
-      taken_asks g = record { line_long = k.ready.roomy.line; line_short = k.ready.line_short; countable = omega (arith, k.ready.countable); room = g.1 }
-
       -- One more.
       pub taken_more : Going r'.state written (length out') → {r'' : Run} {next : ℕ} {out'' : List ℕ} → Makes (Byte r' (at chunk i)) written out' r'' next out'' → AsLong r'.lent r''.lent
           → length out'' ≡ length out' → Taken r chunk out r'' (i + 1) next out''

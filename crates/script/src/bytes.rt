@@ -23,15 +23,8 @@ fn turn_right(turn: Turn) -> bool
     ensures { Says result (TurnRight turn) }
 {
     match turn {
-        Turn::Column { size, column, fits } => {
-            if size <= column {
-                return false;
-            }
-            size <= Register::MAX_SIZE
-        }
-        Turn::Order => true,
-        Turn::Put { size } => true,
-        Turn::Ended => true,
+        Turn::Column { size, column, .. } => column < size && size <= Register::MAX_SIZE,
+        Turn::Order | Turn::Put { .. } | Turn::Ended => true,
     }
 }
 
@@ -53,7 +46,7 @@ pub fn ready(
         (lent (lists cs.now cr.now rs.now rc.now or.now oc.now)
         eta.now numbers.now line.now)) n) }
 {
-    if !takes(
+    takes(
         Register::MAX_SIZE,
         Register::MAX_TOTAL,
         cs,
@@ -62,39 +55,19 @@ pub fn ready(
         rc,
         or,
         oc,
-    ) {
-        return false;
-    }
-    if eta.len() < Register::MAX_SIZE {
-        return false;
-    }
-    if numbers.len() < 4000 {
-        return false;
-    }
-    if line.len() < 8000 {
-        return false;
-    }
-    if 8000 < state.used {
-        return false;
-    }
-    if usize::MAX - state.number < n {
-        return false;
-    }
-    let turn = state.turn;
-    turn_right(turn)
+    ) && Register::MAX_SIZE <= eta.len()
+        && 4000 <= numbers.len()
+        && 8000 <= line.len()
+        && state.used <= 8000
+        && n <= usize::MAX - state.number
+        && turn_right(state.turn)
 }
 
 // Whether the run goes on, with so many bytes printed of so many.
 fn goes_on(state: State, written: usize, room: usize) -> bool
     ensures { Says result ((has_ended state ≡ false) × (written + max_reply ≤ room)) }
 {
-    if room < MAX_REPLY {
-        return false;
-    }
-    if room - MAX_REPLY < written {
-        return false;
-    }
-    !ended(state)
+    MAX_REPLY <= room && written <= room - MAX_REPLY && !ended(state)
 }
 
 // The end of a line.
@@ -121,8 +94,7 @@ fn end_line(
         (lent (lists cs.new cr.new rs.new rc.new or.new oc.new)
         eta.new numbers.new line.now)) result.next out.new }
 {
-    let turn = state.turn;
-    match turn {
+    match state.turn {
         Turn::Order => order_line(state, line, cs, out, place),
         Turn::Column { size, column, fits } => col_line(
             state, size, column, fits, line, numbers, cs, cr, rs, rc, or, oc, out, place,
@@ -169,12 +141,10 @@ fn byte(
         return bad(state, out, place);
     }
     line[used] = b;
-    let turn = state.turn;
     Step {
         state: State {
-            turn,
-            number: state.number,
             used: used + 1,
+            ..state
         },
         next: place,
     }
@@ -208,21 +178,23 @@ pub fn feed_ready(
 {
     let mut st = state;
     let mut written = 0;
-    let mut i = 0;
-    while i < chunk.len() {
+    for (i, &b) in chunk.iter().enumerate() {
         if !goes_on(st, written, out.len()) {
-            break;
+            return Fed {
+                state: st,
+                taken: i,
+                written,
+            };
         }
         let step = byte(
-            chunk[i], st, line, numbers, cs, cr, rs, rc, or, oc, eta, out, written,
+            b, st, line, numbers, cs, cr, rs, rc, or, oc, eta, out, written,
         );
         st = step.state;
         written = step.next;
-        i += 1;
     }
     Fed {
         state: st,
-        taken: i,
+        taken: chunk.len(),
         written,
     }
 }

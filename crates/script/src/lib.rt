@@ -39,13 +39,7 @@ pub fn begin() -> State
 pub fn ended(state: State) -> bool
     ensures { result ≡ has_ended state }
 {
-    let turn = state.turn;
-    match turn {
-        Turn::Order => false,
-        Turn::Column { size, column, fits } => false,
-        Turn::Put { size } => false,
-        Turn::Ended => true,
-    }
+    matches!(state.turn, Turn::Ended)
 }
 
 // Feeds bytes to a run. Taking stops where the run has ended or the output list has no room for another reply line.
@@ -103,12 +97,9 @@ pub fn feed(
 fn ends_badly(state: State) -> bool
     ensures { closing state ≡ cond result (bad_line state.number) [] }
 {
-    let used = state.used;
-    let turn = state.turn;
-    match turn {
-        Turn::Order => true,
-        Turn::Column { size, column, fits } => true,
-        Turn::Put { size } => used != 0,
+    match state.turn {
+        Turn::Order | Turn::Column { .. } => true,
+        Turn::Put { .. } => state.used != 0,
         Turn::Ended => false,
     }
 }

@@ -3,8 +3,6 @@
 
 #![tactic(auto)]
 
-ghost use Rattle.std.specs.Prelude.{◌<◌};
-
 use std::io;
 use std::io::Read;
 use turns::State;
@@ -40,43 +38,19 @@ fn work(
     out: &mut [u8],
 ) -> io::Result<State> {
     let mut st = state;
-    let mut at = 0;
-    while at < chunk.len() {
-        let fed = script::feed(
-            &chunk[at..],
-            st,
-            line,
-            numbers,
-            cs,
-            cr,
-            rs,
-            rc,
-            or,
-            oc,
-            eta,
-            out,
-        );
+    let mut rest = chunk;
+    // How much a call takes is known only after it, so no iterator has the parts.
+    while !rest.is_empty() {
+        let fed = script::feed(rest, st, line, numbers, cs, cr, rs, rc, or, oc, eta, out);
         rt.write_all(&out[..fed.written])?;
         st = fed.state;
         // A run that takes nothing has ended.
         if fed.taken == 0 {
-            at = chunk.len();
-        } else {
-            at += fed.taken;
+            break;
         }
+        rest = &rest[fed.taken..];
     }
     Ok(st)
-}
-
-// How many reads are left: as many as can be counted, and none after the run's end.
-fn left(turns: u64, state: State) -> u64
-    requires { 0 < turns }
-    ensures { result < turns }
-{
-    if script::ended(state) {
-        return 0;
-    }
-    turns - 1
 }
 
 fn main(rt: HostRuntime) -> io::Result<()> {
@@ -93,28 +67,29 @@ fn main(rt: HostRuntime) -> io::Result<()> {
     let mut oc = [0u16; PLACES];
     let mut eta = [0u16; PLACES];
     let mut state = script::begin();
-    let mut turns = u64::MAX;
-    while turns > 0 {
+    // As many reads as can be counted.
+    for _ in 0..u64::MAX {
         let n = input.read(&mut buf)?;
         if n == 0 {
-            turns = 0;
-        } else {
-            state = work(
-                &rt,
-                &buf[..n],
-                state,
-                &mut line,
-                &mut numbers,
-                &mut cs,
-                &mut cr,
-                &mut rs,
-                &mut rc,
-                &mut or,
-                &mut oc,
-                &mut eta,
-                &mut out,
-            )?;
-            turns = left(turns, state);
+            break;
+        }
+        state = work(
+            &rt,
+            &buf[..n],
+            state,
+            &mut line,
+            &mut numbers,
+            &mut cs,
+            &mut cr,
+            &mut rs,
+            &mut rc,
+            &mut or,
+            &mut oc,
+            &mut eta,
+            &mut out,
+        )?;
+        if script::ended(state) {
+            break;
         }
     }
     let rest = script::finish(state, &mut out);

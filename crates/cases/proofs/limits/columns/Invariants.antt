@@ -1,9 +1,6 @@
 -- `columns`: the next place is never past the list.
-use Prim.Native.Nat.{◌-◌, ◌≤◌}
+use Prim.Native.Nat.{◌≤◌}
 use Rattle.cases.proofs.limits.columns.Given as goal
 
 abbrev pub invariant-loop-c : goal.invariant-loop-c
 invariant-loop-c l = l.n ≤ 12001
-
-abbrev pub decreases-loop-c : goal.decreases-loop-c
-decreases-loop-c l = 1000 - l.c

@@ -1,9 +1,6 @@
 -- `rows`: the next place is never past the list.
-use Prim.Native.Nat.{◌-◌, ◌≤◌}
+use Prim.Native.Nat.{◌≤◌}
 use Rattle.cases.proofs.limits.rows.Given as goal
 
 abbrev pub invariant-loop-r : goal.invariant-loop-r
 invariant-loop-r l = l.n ≤ 12001
-
-abbrev pub decreases-loop-r : goal.decreases-loop-r
-decreases-loop-r l = 1000 - l.r

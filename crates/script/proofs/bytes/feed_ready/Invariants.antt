@@ -1,6 +1,4 @@
 -- `feed_ready`: i bytes of the chunk are taken.
-use Prim.Native.Nat.{◌-◌}
-use lib.ListN.{length}
 use Rattle.register.specs.Lent.{lists}
 use Rattle.turns.specs.Turns.{run, lent}
 use Rattle.script.proofs.Takings.{Taken}
@@ -9,7 +7,3 @@ use Rattle.script.proofs.bytes.feed_ready.Given as goal
 abbrev pub invariant-loop-i : goal.invariant-loop-i
 invariant-loop-i l =
     Taken (run l.initial.st (lent (lists l.initial.cs l.initial.cr l.initial.rs l.initial.rc l.initial.or l.initial.oc) l.initial.eta l.initial.numbers l.initial.line)) l.chunk l.initial.out (run l.st (lent (lists l.cs l.cr l.rs l.rc l.or l.oc) l.eta l.numbers l.line)) l.i l.written l.out
-
-abbrev pub decreases-loop-i : goal.decreases-loop-i
-decreases-loop-i l =
-    length l.chunk - l.i
