@@ -1,12 +1,12 @@
 -- The two answers of a test. Rests on specs/Says.antt.
 use Rattle.std.proofs.lemmas.Bool.{false≢true}
 use Rattle.std.specs.Bool.{Decides}
-use mathlib.Core.Bool.{Bool, true, false}
+use mathlib.Core.Bool.{Bool, true, false, not}
 use mathlib.Core.Path.{◌≡◌, refl, sym, ◌∙◌}
 use Prim.Native.Nat.{ℕ, ◌<◌}
 use native.Mathlib.Omega.{arith}
 use lib.Dec.{ltb}
-use borrow.Author.Tests.{ltb-true, ltb-false}
+use borrow.Author.Tests.{not-true, not-false, ltb-true, ltb-false}
 use Rattle.listing.specs.Says.{Told, Says}
 
 module _ {P Q : Type 0} where
@@ -22,6 +22,10 @@ module _ {P Q : Type 0} where
 
   pub shown : {r : Bool} → Told r P Q → r ≡ true → P
   shown s e = s.yes e
+
+  -- The opposite answer.
+  pub told_not : {r : Bool} → Told r P Q → Told (not r) Q P
+  told_not {r} s = record { yes = λ e. refuted s (not-true r e); no = λ e. shown s (not-false r e) }
 
 -- A test that decides.
 pub told_decides : {P : Type 0} {r : Bool} → Decides r P → Says r P

@@ -7,17 +7,22 @@ use Rattle.pattern.proofs.Rungs.{unless_one}
 use Rattle.listing.specs.Contract.{Determined, DeterminedAs}
 use Rattle.listing.specs.Held.{Held}
 use Rattle.listing.specs.Look.{Spans}
+use Rattle.listing.specs.declared.listing.Listed.{Listed}
 use Rattle.listing.proofs.Answers.{says_same}
-use Rattle.listing.proofs.listing.formed.Kinds as formed-kinds
-use Rattle.listing.proofs.listing.formed.Reads as formed
-use Rattle.listing.proofs.listing.part.Kinds as part-kinds
-use Rattle.listing.proofs.listing.part.Reads as part
-use Rattle.listing.proofs.listing.parts_rise.Kinds as parts-rise-kinds
-use Rattle.listing.proofs.listing.parts_rise.Reads as parts-rise
+use Rattle.listing.proofs.formed.Formed.part.Kinds as formed-part-kinds
+use Rattle.listing.proofs.formed.Formed.part.Reads as formed-part
+use Rattle.listing.proofs.listed_mut.ListedMut.view.Kinds as view-kinds
+use Rattle.listing.proofs.listed_mut.ListedMut.view.Reads as view
+use Rattle.listing.proofs.listing.Listed.formed.Kinds as formed-kinds
+use Rattle.listing.proofs.listing.Listed.formed.Reads as formed
+use Rattle.listing.proofs.listing.Listed.part.Kinds as part-kinds
+use Rattle.listing.proofs.listing.Listed.part.Reads as part
+use Rattle.listing.proofs.listing.Listed.parts_rise.Kinds as parts-rise-kinds
+use Rattle.listing.proofs.listing.Listed.parts_rise.Reads as parts-rise
 use Rattle.listing.proofs.listing.rising.Kinds as rising-kinds
 use Rattle.listing.proofs.listing.rising.Reads as rising
-use Rattle.listing.proofs.listing.starts_right.Kinds as starts-right-kinds
-use Rattle.listing.proofs.listing.starts_right.Reads as starts_right
+use Rattle.listing.proofs.listing.Listed.starts_right.Kinds as starts-right-kinds
+use Rattle.listing.proofs.listing.Listed.starts_right.Reads as starts_right
 use Rattle.listing.proofs.lists.copy.Kinds as copy-kinds
 use Rattle.listing.proofs.lists.copy.Reads as copy
 use Rattle.listing.proofs.lists.first.Kinds as first-kinds
@@ -40,6 +45,16 @@ wide_determined κs a h x y ws vs p q = (same p q, refl)
 
 pub part_determined : DeterminedAs part-kinds.ps part-kinds.r part.Pre part.Post (λ κs r. r.now) (λ κs a ws. ws)
 part_determined κs a h x y ws vs p q = (same p q, refl)
+
+pub formed_part_determined : DeterminedAs formed-part-kinds.ps formed-part-kinds.r formed-part.Pre formed-part.Post (λ κs r. r.now) (λ κs a ws. ws)
+formed_part_determined κs a h x y ws vs p q = (same p q, refl)
+
+-- What stands in the two lists of a listing.
+abbrev both : Listed → List ℕ × List ℕ
+both r = (r.starts.now, r.entries.now)
+
+pub view_determined : DeterminedAs view-kinds.ps view-kinds.r view.Pre view.Post (λ κs r. both r) (λ κs a ws. ws)
+view_determined κs a h x y ws vs p q = (λ i. (same p.0 q.0 i, same p.1 q.1 i), refl)
 
 pub first_determined : DeterminedAs first-kinds.ps first-kinds.r first.Pre first.Post (λ κs r. r.now) (λ κs a ws. ws)
 first_determined κs a h x y ws vs p q = (same p q, refl)
@@ -78,4 +93,4 @@ held_one P s e s₁ e₁ s₂ e₂ f f' = (same f.starts_after f'.starts_after, 
 pub turn_determined : Determined turn-kinds.ps turn-kinds.r turn.Pre turn.Post
 turn_determined κs a h x y ws vs p q =
     let o = held_one _ _ _ _ _ _ _ p q in
-    (refl, λ i. (tt, (tt, (tt, (o.0 i, (o.1 i, tt))))))
+    (refl, λ i. (tt, (o.0 i, (o.1 i, tt))))

@@ -12,4 +12,5 @@ pub mod Readback
 pub mod Puts
 pub mod Storing
 pub mod Turns
+pub mod Loans
 pub mod Determined

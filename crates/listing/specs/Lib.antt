@@ -7,3 +7,5 @@ pub mod Held
 pub mod Look
 pub mod Walk
 pub mod Contract
+pub mod Formed
+pub mod Loan

@@ -2,6 +2,8 @@
 
 #![tactic(auto)]
 
+pub mod formed;
+pub mod listed_mut;
 pub mod listing;
 pub mod lists;
 pub mod look;

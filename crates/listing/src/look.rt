@@ -2,16 +2,17 @@
 ghost use Rattle.listing.specs.Look.{Spans};
 
 use crate::MAX_SIZE;
+use crate::listing::Listed;
 use crate::wide::wide;
 
-#[derive(Drop)]
+#[derive(Clone, Copy)]
 pub struct Span {
     pub from: usize,
     pub to: usize,
 }
 
-pub fn sight(m: usize, starts: &[u16], rows: &[u16], column: usize) -> Span
-    ensures { Spans m column starts.now rows.now (result.from, result.to) }
+pub fn sight(m: usize, columns: Listed, column: usize) -> Span
+    ensures { Spans m column columns.entry.starts.now columns.entry.entries.now (result.from, result.to) }
 {
     let nowhere = Span { from: 0, to: 0 };
     if m == 0 {
@@ -23,15 +24,15 @@ pub fn sight(m: usize, starts: &[u16], rows: &[u16], column: usize) -> Span
     if m <= column {
         return nowhere;
     }
-    if starts.len() <= m {
+    if columns.starts.len() <= m {
         return nowhere;
     }
-    let from = wide(starts[column]);
-    let to = wide(starts[column + 1]);
+    let from = wide(columns.starts[column]);
+    let to = wide(columns.starts[column + 1]);
     if to < from {
         return nowhere;
     }
-    if rows.len() < to {
+    if columns.entries.len() < to {
         return nowhere;
     }
     Span { from, to }

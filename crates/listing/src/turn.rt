@@ -4,33 +4,33 @@ ghost use Rattle.std.specs.Prelude.{◌≡◌, ◌+◌, ◌≤◌, ◌<◌, leng
 ghost use Rattle.pattern.specs.Flat.{start_of};
 ghost use Rattle.pattern.specs.Places.{at};
 ghost use Rattle.pattern.specs.Series.{tally};
-ghost use Rattle.pattern.specs.Turned.{row_of, turned};
+ghost use Rattle.pattern.specs.Turned.{row_of};
 ghost use Rattle.listing.specs.Limits.{max_size, max_total};
 ghost use Rattle.listing.specs.Held.{Held};
-ghost use Rattle.listing.specs.Listing.{parts, Good};
+ghost use Rattle.listing.specs.Formed.{parts_of, total_of, turned_of};
 ghost use Rattle.listing.specs.Walk.{Cursors, Walked, Kept, Laid};
 
 use crate::MAX_SIZE;
-use crate::listing::part;
+use crate::formed::Formed;
 use crate::wide::wide;
 
 // One more for each row of column j.
-fn count_column(m: usize, starts: &[u16], rows: &[u16], j: usize, counts: &mut [u16; MAX_SIZE])
-    requires { (j < m) × Good m starts.now rows.now × Cursors m (λ _. 0) (λ r. row_of (parts m starts.now rows.now) r j) counts.old }
-    ensures { Cursors m (λ _. 0) (λ r. row_of (parts m starts.now rows.now) r (j + 1)) counts.new }
+fn count_column(columns: Formed, j: usize, counts: &mut [u16; MAX_SIZE])
+    requires { (j < columns.size) × Cursors columns.size (λ _. 0) (λ r. row_of (parts_of columns) r j) counts.old }
+    ensures { Cursors columns.entry.size (λ _. 0) (λ r. row_of (parts_of columns.entry) r (j + 1)) counts.new }
 {
-    for row in part(starts, rows, j) {
+    for row in columns.part(j) {
         counts[wide(*row)] += 1;
     }
 }
 
 // How many columns each row has.
-fn count_rows(m: usize, starts: &[u16], rows: &[u16], counts: &mut [u16; MAX_SIZE])
-    requires { Good m starts.now rows.now × Cursors m (λ _. 0) (λ r. row_of (parts m starts.now rows.now) r 0) counts.old }
-    ensures { Cursors m (λ _. 0) (λ r. row_of (parts m starts.now rows.now) r m) counts.new }
+fn count_rows(columns: Formed, counts: &mut [u16; MAX_SIZE])
+    requires { Cursors columns.size (λ _. 0) (λ r. row_of (parts_of columns) r 0) counts.old }
+    ensures { Cursors columns.entry.size (λ _. 0) (λ r. row_of (parts_of columns.entry) r columns.entry.size) counts.new }
 {
-    for j in 0..m {
-        count_column(m, starts, rows, j, counts);
+    for j in 0..columns.size {
+        count_column(columns, j, counts);
     }
 }
 
@@ -50,21 +50,14 @@ fn lay_starts(m: usize, next: &mut [u16; MAX_SIZE], starts: &mut [u16])
 }
 
 // Column j goes to the cursor of each of its rows.
-fn fill_column(
-    m: usize,
-    starts: &[u16],
-    rows: &[u16],
-    j: usize,
-    next: &mut [u16; MAX_SIZE],
-    cols: &mut [u16],
-)
-    requires good { (j < m) × Good m starts.now rows.now × (at starts.now m ≤ length cols.old) }
-    requires walked { Walked m (start_of (turned m (parts m starts.now rows.now))) cols.old (λ r. row_of (parts m starts.now rows.now) r j) next.old }
-    ensures { Walked m (start_of (turned m (parts m starts.now rows.now))) cols.new
-        (λ r. row_of (parts m starts.now rows.now) r (j + 1)) next.new
-        × Kept (at starts.now m) cols.old cols.new }
+fn fill_column(columns: Formed, j: usize, next: &mut [u16; MAX_SIZE], cols: &mut [u16])
+    requires room { (j < columns.size) × (total_of columns ≤ length cols.old) }
+    requires walked { Walked columns.size (start_of (turned_of columns)) cols.old (λ r. row_of (parts_of columns) r j) next.old }
+    ensures { Walked columns.entry.size (start_of (turned_of columns.entry)) cols.new
+        (λ r. row_of (parts_of columns.entry) r (j + 1)) next.new
+        × Kept (total_of columns.entry) cols.old cols.new }
 {
-    for row in part(starts, rows, j) {
+    for row in columns.part(j) {
         let r = wide(*row);
         let p = next[r];
         cols[wide(p)] = j as u16;
@@ -73,32 +66,26 @@ fn fill_column(
 }
 
 // Every column goes to the cursors of its rows.
-fn fill_rows(m: usize, starts: &[u16], rows: &[u16], next: &mut [u16; MAX_SIZE], cols: &mut [u16])
-    requires good { Good m starts.now rows.now × (at starts.now m ≤ length cols.old) }
-    requires walked { Walked m (start_of (turned m (parts m starts.now rows.now))) cols.old (λ r. row_of (parts m starts.now rows.now) r 0) next.old }
-    ensures { Walked m (start_of (turned m (parts m starts.now rows.now))) cols.new
-        (λ r. row_of (parts m starts.now rows.now) r m) next.new
-        × Kept (at starts.now m) cols.old cols.new }
+fn fill_rows(columns: Formed, next: &mut [u16; MAX_SIZE], cols: &mut [u16])
+    requires room { total_of columns ≤ length cols.old }
+    requires walked { Walked columns.size (start_of (turned_of columns)) cols.old (λ r. row_of (parts_of columns) r 0) next.old }
+    ensures { Walked columns.entry.size (start_of (turned_of columns.entry)) cols.new
+        (λ r. row_of (parts_of columns.entry) r columns.entry.size) next.new
+        × Kept (total_of columns.entry) cols.old cols.new }
 {
-    for j in 0..m {
-        fill_column(m, starts, rows, j, next, cols);
+    for j in 0..columns.size {
+        fill_column(columns, j, next, cols);
     }
 }
 
 // Writes the turned listing of a good one, and nothing past it.
-pub fn turn(
-    m: usize,
-    starts: &[u16],
-    entries: &[u16],
-    into_starts: &mut [u16],
-    into_entries: &mut [u16],
-)
-    requires { Good m starts.now entries.now × (m < length into_starts.old) × (at starts.now m ≤ length into_entries.old) }
-    ensures { Held (turned m (parts m starts.now entries.now))
+pub fn turn(columns: Formed, into_starts: &mut [u16], into_entries: &mut [u16])
+    requires { (columns.size < length into_starts.old) × (total_of columns ≤ length into_entries.old) }
+    ensures { Held (turned_of columns.entry)
         into_starts.old into_entries.old into_starts.new into_entries.new }
 {
     let mut next = [0u16; MAX_SIZE];
-    count_rows(m, starts, entries, &mut next);
-    lay_starts(m, &mut next, into_starts);
-    fill_rows(m, starts, entries, &mut next, into_entries);
+    count_rows(columns, &mut next);
+    lay_starts(columns.size, &mut next, into_starts);
+    fill_rows(columns, &mut next, into_entries);
 }

@@ -12,7 +12,7 @@ use Rattle.pattern.specs.Turned.{turned}
 use Rattle.pattern.proofs.Tallies.{tally_more}
 use Rattle.pattern.proofs.Turning.{met, met_none}
 use Rattle.listing.specs.Limits.{max_size, max_total}
-use Rattle.listing.specs.Listing.{parts}
+use Rattle.listing.specs.Formed.{parts_of}
 use Rattle.listing.specs.Walk.{Walked}
 use Rattle.listing.proofs.Listings.{good_within}
 use Rattle.listing.proofs.Turns.{kept_all, kept_set, turned_start, row_ends}
@@ -21,7 +21,7 @@ use Rattle.listing.proofs.turn.fill_column.Goals as goal
 use Rattle.listing.proofs.turn.fill_column.Goals.{After-part-row-items, After-wide-r}
 
 abbrev P : After-part-row-items → List (List ℕ)
-P c = parts c.args.m c.args.starts.now c.args.rows.now
+P c = parts_of c.args.columns
 
 -- A turn, at row r.
 module _ (c : After-wide-r) where
@@ -35,32 +35,32 @@ module _ (c : After-wide-r) where
   cols = c.loop-row.cols
 
   abbrev base : ℕ → ℕ
-  base = start_of (turned c.args.m (P after_part))
+  base = start_of (turned c.args.columns.size (P after_part))
 
-  turn : Turn c.args.m (P after_part) c.args.j c.loop-row.row-index c.wide-r.result
-  turn = turn_of c.requires.good.1 c.requires.good.0 c.part-row-items.ensures (omega arith) c.wide-r.ensures
+  turn : Turn c.args.columns.size (P after_part) c.args.j c.loop-row.row-index c.wide-r.result
+  turn = turn_of c.args.columns.good c.requires.room.0 c.part-row-items.ensures (omega arith) c.wide-r.ensures
 
-  fits : base c.args.m ≤ length cols
-  fits = omega (arith, turned_start c.requires.good.1, c.loop-row.invariant.1.long)
+  fits : base c.args.columns.size ≤ length cols
+  fits = omega (arith, turned_start c.args.columns.good, c.loop-row.invariant.1.long)
 
   room : cursor < base (c.wide-r.result + 1)
-  room = walked_room turn c.loop-row.invariant.0 fits (omega (arith, row_ends c.requires.good.1 c.wide-r.result (row_in turn)))
+  room = walked_room turn c.loop-row.invariant.0 fits (omega (arith, row_ends c.args.columns.good c.wide-r.result (row_in turn)))
 
   -- The row and its cursor are in range, and the cursor is before the end of the rows.
-  row_ok : (c.wide-r.result < max_size) × (cursor < at c.args.starts.now c.args.m) × (cursor < length cols) × (cursor < max_total)
+  row_ok : (c.wide-r.result < max_size) × (cursor < at c.args.columns.listed.starts.now c.args.columns.size) × (cursor < length cols) × (cursor < max_total)
   row_ok =
-      let within = tally_more (λ i. length (column (turned c.args.m (P after_part)) i)) (c.wide-r.result + 1) c.args.m (omega (arith, row_in turn)) in
-      omega (arith, row_in turn, turn.small, room, fits, turned_start c.requires.good.1, c.requires.good.1.formed.starts_right.total)
+      let within = tally_more (λ i. length (column (turned c.args.columns.size (P after_part)) i)) (c.wide-r.result + 1) c.args.columns.size (omega (arith, row_in turn)) in
+      omega (arith, row_in turn, turn.small, room, fits, turned_start c.args.columns.good, c.args.columns.good.formed.starts_right.total)
 
   goes_on : (v : ℕ) → v ≡ cursor + 1
-      → Walked c.args.m base (set cols cursor c.args.j) (λ r. met (P after_part) r c.args.j (c.loop-row.row-index + 1))
+      → Walked c.args.columns.size base (set cols cursor c.args.j) (λ r. met (P after_part) r c.args.j (c.loop-row.row-index + 1))
       (set c.loop-row.next c.wide-r.result v)
   goes_on =
       walked_more turn c.loop-row.invariant.0 fits room (set cols cursor c.args.j) (length-set cols cursor c.args.j)
       (get_or-set_same cols cursor c.args.j 0 row_ok.2) (λ q n. get_or-set_other cols cursor q c.args.j 0 n)
 
 pub part-row-items-requires : goal.part-row-items-requires
-part-row-items-requires c = omega (arith, good_within c.requires.good.1 c.args.j c.requires.good.0)
+part-row-items-requires c = omega (arith, good_within c.args.columns.good c.args.j c.requires.room.0)
 
 pub loop-row-init : goal.loop-row-init
 loop-row-init c = (walked_as (λ r h. sym (met_none (P (goal.at.loop-row-init c).After-part-row-items) r c.args.j)) c.requires.walked, kept_all)
@@ -73,7 +73,7 @@ loop-row-preserved c =
 
 pub returns : goal.returns
 returns c =
-    (walked_as (column_read c.requires.good.1 c.requires.good.0 c.part-row-items.ensures c.loop-row.row-index (omega arith)) c.loop-row.invariant.0, c.loop-row.invariant.1)
+    (walked_as (column_read c.args.columns.good c.requires.room.0 c.part-row-items.ensures c.loop-row.row-index (omega arith)) c.loop-row.invariant.0, c.loop-row.invariant.1)
 
 pub bounds-cols-wide : goal.bounds-cols-wide
 bounds-cols-wide c = omega (arith, row_ok (goal.at.bounds-cols-wide c).After-wide-r)

@@ -5,8 +5,8 @@ use Rattle.pattern.specs.Series.{tally}
 use Rattle.listing.specs.Falls.{fall}
 use Rattle.listing.proofs.Answers.{told_yes, told_no, refuted, shown}
 use Rattle.listing.proofs.Falling.{counts_rise, rise_counts, rise_ends}
-use Rattle.listing.proofs.listing.parts_rise.Goals as goal
-use Rattle.listing.proofs.listing.parts_rise.Goals.{After-falls_at_starts}
+use Rattle.listing.proofs.listing.Listed.parts_rise.Goals as goal
+use Rattle.listing.proofs.listing.Listed.parts_rise.Goals.{After-falls_at_starts}
 
 pub returns-then-not-ends_below : goal.returns-then-not-ends_below
 returns-then-not-ends_below c =
@@ -14,8 +14,8 @@ returns-then-not-ends_below c =
 
 -- The falls that were counted are those before the total.
 module _ (c : After-falls_at_starts) where
-  counted : c.wide-2.result ≡ tally (fall c.args.entries.now) (at c.args.starts.now c.args.m)
-  counted = c.wide-2.ensures ∙ c.falls.ensures ∙ ap (tally (fall c.args.entries.now)) c.wide.ensures
+  counted : c.wide-2.result ≡ tally (fall c.args.self.entries.now) (at c.args.self.starts.now c.args.m)
+  counted = c.wide-2.ensures ∙ c.falls.ensures ∙ ap (tally (fall c.args.self.entries.now)) c.wide.ensures
 
 pub returns-then-wide-falls_at_starts : goal.returns-then-wide-falls_at_starts
 returns-then-wide-falls_at_starts c =
