@@ -16,6 +16,7 @@ use Rattle.listing.proofs.Answers.{says_same}
 use Rattle.listing.proofs.Determined.{same, spans_one}
 use Rattle.register.specs.Checks.{FirstFault}
 use Rattle.register.specs.Lent.{Lists, Fresh}
+use Rattle.register.specs.Loan.{seen}
 use Rattle.register.specs.Marks.{unmarked}
 use Rattle.register.specs.Order.{Placed}
 use Rattle.register.specs.Reply.{number, fault}
@@ -25,6 +26,8 @@ use Rattle.register.specs.declared.Refusal.TheVariants.{Size, ShortList, Malform
 use Rattle.register.specs.declared.marks.Marks.{Marks}
 use Rattle.register.proofs.check.check.Kinds as checks-kinds
 use Rattle.register.proofs.check.check.Reads as checks
+use Rattle.register.proofs.lent.LentMut.view.Kinds as view-kinds
+use Rattle.register.proofs.lent.LentMut.view.Reads as view
 use Rattle.register.proofs.marks.Marks.none.Kinds as none-kinds
 use Rattle.register.proofs.marks.Marks.none.Reads as none
 use Rattle.register.proofs.places.place_all.Kinds as place-all-kinds
@@ -118,6 +121,9 @@ look_determined m c starts rows p p' f f' =
 
 pub none_determined : Determined none-kinds.ps none-kinds.r none.Pre none.Post
 none_determined κs a h x y ws vs p q = (same p q, refl)
+
+pub view_determined : DeterminedAs view-kinds.ps view-kinds.r view.Pre view.Post (λ κs r. seen r) (λ κs a ws. ws)
+view_determined κs a h x y ws vs p q = (same p q, refl)
 
 pub top_place_determined : Determined top-place-kinds.ps top-place-kinds.r top_place.Pre top_place.Post
 top_place_determined κs a h x y ws vs p q = (same p q, refl)

@@ -1,128 +1,105 @@
-// The build paper's checks 1 to 5 of a lent register, in the order of their numbers. The lists are those of the columns (cs, cr:
-// starts and rows), of the rows (rs, rc: starts and columns) and of the order (or, oc: rows and columns).
-ghost use Rattle.std.specs.Prelude.{◌≡◌, ◌<◌, length};
+// The build paper's checks 1 to 5 of a lent register, in the order of their numbers.
+ghost use Rattle.std.specs.Prelude.{◌≡◌};
 ghost use Rattle.pattern.specs.Places.{at};
 ghost use Rattle.pattern.specs.Ladder.{Unless};
 ghost use Rattle.listing.specs.Falls.{PartsRise};
-ghost use Rattle.listing.specs.Limits.{max_size, Sized};
+ghost use Rattle.listing.specs.Limits.{Sized};
 ghost use Rattle.listing.specs.Listing.{Room, Starts};
 ghost use Rattle.listing.specs.Says.{Says};
 ghost use Rattle.register.specs.Checks.{Contents, FirstFault};
-ghost use Rattle.register.specs.Lent.{lists, Long};
+ghost use Rattle.register.specs.Lent.{Long};
+ghost use Rattle.register.specs.Loan.{seen};
 ghost use Rattle.register.specs.Order.{PlacesKnown};
 ghost use Rattle.register.specs.Reply.{fault};
 
+use crate::lent::Lent;
 use crate::order::{clear, enter, topped};
 use crate::same::same;
+use crate::scratch::Scratch;
 use crate::{Refusal, Register};
-use listing::listing::{formed, parts_rise, starts_right};
+use listing::formed::Formed;
+use listing::listing::Listed;
 use listing::wide::wide;
 
 // Check 2: the lengths.
-fn long_enough(
-    m: usize,
-    cs: &[u16],
-    cr: &[u16],
-    rs: &[u16],
-    rc: &[u16],
-    or: &[u16],
-    oc: &[u16],
-) -> bool
-    ensures { Says result
-        (Long m (lists cs.now cr.now rs.now rc.now or.now oc.now)) }
+fn long_enough(m: usize, lists: Lent) -> bool
+    ensures { Says result (Long m (seen lists.entry)) }
 {
-    if cs.len() <= m {
+    if lists.columns.starts.len() <= m {
         return false;
     }
-    if cr.len() < wide(cs[m]) {
+    if lists.columns.entries.len() < wide(lists.columns.starts[m]) {
         return false;
     }
-    if rs.len() <= m {
+    if lists.rows.starts.len() <= m {
         return false;
     }
-    if rc.len() < wide(rs[m]) {
+    if lists.rows.entries.len() < wide(lists.rows.starts[m]) {
         return false;
     }
-    if or.len() < m {
-        return false;
-    }
-    if oc.len() < m {
-        return false;
-    }
-    true
+    m <= lists.order_rows.len() && m <= lists.order_cols.len()
 }
 
 // The fault of a row listing with right starts that is not the columns turned: it is malformed, or lists other entries.
-fn unlike(m: usize, rs: &[u16], rc: &[u16]) -> Result<(), Refusal>
-    requires { Room m rs.now rc.now × Starts m rs.now }
-    ensures { Unless (PartsRise m rs.now rc.now) 3 (λ n. n ≡ 4) (fault result) }
+fn unlike(m: usize, rows: Listed) -> Result<(), Refusal>
+    requires { Room m rows.starts.now rows.entries.now × Starts m rows.starts.now }
+    ensures { Unless (PartsRise m rows.entry.starts.now rows.entry.entries.now) 3 (λ n. n ≡ 4) (fault result) }
 {
-    if !parts_rise(m, rs, rc) {
+    if !rows.parts_rise(m) {
         return Err(Refusal::MalformedListing);
     }
     Err(Refusal::ListingsDiffer)
 }
 
 // Checks 3 to 5: what the lists hold. The entries are gone over once for the rows' listing and the order together; where that
-// fails, what it failed for is found by itself. Where nothing is refused, `places` and `tops` have the places of the rows and of
+// fails, what it failed for is found by itself. Where nothing is refused, the scratch lists have the places of the rows and of
 // the columns: a column's own place is the greatest of its rows'.
-fn contents(
-    m: usize,
-    cs: &[u16],
-    cr: &[u16],
-    rs: &[u16],
-    rc: &[u16],
-    or: &[u16],
-    oc: &[u16],
-    next: &mut [u16; Register::MAX_SIZE],
-    places: &mut [u16; Register::MAX_SIZE],
-    tops: &mut [u16; Register::MAX_SIZE],
-) -> Result<(), Refusal>
-    requires sized { Sized m × Long m (lists cs.now cr.now rs.now rc.now or.now oc.now) }
-    requires scratch { (length next.old ≡ max_size) × (length places.old ≡ max_size) × (length tops.old ≡ max_size) }
-    ensures contents { Contents m
-        (lists cs.now cr.now rs.now rc.now or.now oc.now)
-        (λ n. n) (λ n. n ≡ 0) (fault result) }
-    ensures places_known { fault result ≡ 0 → PlacesKnown m (at or.now) (at oc.now) next.new places.new tops.new }
+fn contents(m: usize, lists: Lent, scratch: &mut Scratch) -> Result<(), Refusal>
+    requires { Sized m × Long m (seen lists) }
+    ensures contents { Contents m (seen lists.entry) (λ n. n) (λ n. n ≡ 0) (fault result) }
+    ensures places_known { fault result ≡ 0 → PlacesKnown m (at lists.entry.order_rows.now) (at lists.entry.order_cols.now)
+        scratch.new.work scratch.new.row_places scratch.new.col_places }
 {
-    if !formed(m, cs, cr) {
+    if !lists.columns.formed(m) {
         return Err(Refusal::MalformedListing);
     }
-    if !starts_right(m, rs) {
+    if !lists.rows.starts_right(m) {
         return Err(Refusal::MalformedListing);
     }
-    clear(places);
-    let entered = enter(m, or, places);
-    if !same(m, cs, cr, rs, rc, next, places, tops) {
-        return unlike(m, rs, rc);
+    clear(&mut scratch.row_places);
+    let entered = enter(m, lists.order_rows, &mut scratch.row_places);
+    let columns = Formed {
+        size: m,
+        listed: lists.columns,
+    };
+    if !same(
+        columns,
+        lists.rows,
+        &mut scratch.work,
+        &scratch.row_places,
+        &mut scratch.col_places,
+    ) {
+        return unlike(m, lists.rows);
     }
     if !entered {
         return Err(Refusal::OrderUnsound);
     }
-    if !topped(m, cs, oc, tops) {
+    if !topped(
+        m,
+        lists.columns.starts,
+        lists.order_cols,
+        &scratch.col_places,
+    ) {
         return Err(Refusal::OrderUnsound);
     }
     Ok(())
 }
 
 // Checks 1 to 5.
-pub fn check(
-    m: usize,
-    cs: &[u16],
-    cr: &[u16],
-    rs: &[u16],
-    rc: &[u16],
-    or: &[u16],
-    oc: &[u16],
-    next: &mut [u16; Register::MAX_SIZE],
-    places: &mut [u16; Register::MAX_SIZE],
-    tops: &mut [u16; Register::MAX_SIZE],
-) -> Result<(), Refusal>
-    requires { (length next.old ≡ max_size) × (length places.old ≡ max_size) × (length tops.old ≡ max_size) }
-    ensures first_fault { FirstFault m
-        (lists cs.now cr.now rs.now rc.now or.now oc.now)
-        (fault result) }
-    ensures places_known { fault result ≡ 0 → PlacesKnown m (at or.now) (at oc.now) next.new places.new tops.new }
+pub fn check(m: usize, lists: Lent, scratch: &mut Scratch) -> Result<(), Refusal>
+    ensures first_fault { FirstFault m (seen lists.entry) (fault result) }
+    ensures places_known { fault result ≡ 0 → PlacesKnown m (at lists.entry.order_rows.now) (at lists.entry.order_cols.now)
+        scratch.new.work scratch.new.row_places scratch.new.col_places }
 {
     if m == 0 {
         return Err(Refusal::Size);
@@ -130,8 +107,8 @@ pub fn check(
     if Register::MAX_SIZE < m {
         return Err(Refusal::Size);
     }
-    if !long_enough(m, cs, cr, rs, rc, or, oc) {
+    if !long_enough(m, lists) {
         return Err(Refusal::ShortList);
     }
-    contents(m, cs, cr, rs, rc, or, oc, next, places, tops)
+    contents(m, lists, scratch)
 }

@@ -3,22 +3,28 @@
 #![tactic(auto)]
 
 pub mod check;
+pub mod lent;
 pub mod marks;
 mod order;
 pub mod places;
 pub mod room;
 mod same;
+pub mod scratch;
 mod start;
 
 ghost use Rattle.std.specs.Prelude.{◌≡◌};
 ghost use Rattle.listing.specs.Look.{Spans, Looked};
 ghost use Rattle.register.specs.Checks.{FirstFault};
 ghost use Rattle.register.specs.Lent.{lists, Fresh};
+ghost use Rattle.register.specs.Loan.{seen};
 ghost use Rattle.register.specs.Marks.{unmarked};
 ghost use Rattle.register.specs.Reply.{number, fault};
 ghost use Rattle.register.specs.Start.{started, StartsWith};
 
+use crate::lent::Lent;
 use crate::marks::Marks;
+use crate::scratch::Scratch;
+use listing::listing::Listed;
 use listing::look::{Span, sight};
 use listing::{MAX_SIZE, MAX_TOTAL};
 
@@ -78,74 +84,51 @@ impl Register {
     }
 
     // The first fault of a register in six lent lists, by the build paper's checks 1 to 5, or that it is sound.
-    pub fn check(
-        self,
-        col_starts: &[u16],
-        col_rows: &[u16],
-        row_starts: &[u16],
-        row_cols: &[u16],
-        order_rows: &[u16],
-        order_cols: &[u16],
-    ) -> Result<(), Refusal>
-        ensures { FirstFault self.size
-            (lists col_starts.now col_rows.now row_starts.now row_cols.now
-            order_rows.now order_cols.now)
-            (fault result) }
+    pub fn check(self, lists: Lent) -> Result<(), Refusal>
+        ensures { FirstFault self.size (seen lists.entry) (fault result) }
     {
-        let mut next = [0u16; Register::MAX_SIZE];
-        let mut places = [0u16; Register::MAX_SIZE];
-        let mut tops = [0u16; Register::MAX_SIZE];
-        check::check(
-            self.size,
-            col_starts,
-            col_rows,
-            row_starts,
-            row_cols,
-            order_rows,
-            order_cols,
-            &mut next,
-            &mut places,
-            &mut tops,
-        )
+        let mut scratch = Scratch {
+            work: [0u16; Register::MAX_SIZE],
+            row_places: [0u16; Register::MAX_SIZE],
+            col_places: [0u16; Register::MAX_SIZE],
+        };
+        check::check(self.size, lists, &mut scratch)
     }
 
     // Starts a register from its column listing, in the order that pairs row t with column t: after checks 1, 2, 3 and 5 of that
     // listing the row listing and the order are written.
     pub fn start(
         self,
-        col_starts: &[u16],
-        col_rows: &[u16],
+        columns: Listed,
         row_starts: &mut [u16],
         row_cols: &mut [u16],
         order_rows: &mut [u16],
         order_cols: &mut [u16],
     ) -> Result<(), Refusal>
         ensures { StartsWith self.size
-            (lists col_starts.now col_rows.now row_starts.old row_cols.old
+            (lists columns.entry.starts.now columns.entry.entries.now row_starts.old row_cols.old
             order_rows.old order_cols.old)
             (started (fault result)
-            (lists col_starts.now col_rows.now row_starts.new row_cols.new
+            (lists columns.entry.starts.now columns.entry.entries.now row_starts.new row_cols.new
             order_rows.new order_cols.new)) }
     {
         start::start(
-            self.size, col_starts, col_rows, row_starts, row_cols, order_rows, order_cols,
+            self.size, columns, row_starts, row_cols, order_rows, order_cols,
         )
     }
 
     // From which place and up to which the rows of one column stand in the caller's list.
-    pub fn span(self, col_starts: &[u16], col_rows: &[u16], column: usize) -> Span
-        ensures { Spans self.size column col_starts.now col_rows.now (result.from, result.to) }
+    pub fn span(self, columns: Listed, column: usize) -> Span
+        ensures { Spans self.size column columns.entry.starts.now columns.entry.entries.now (result.from, result.to) }
     {
-        sight(self.size, col_starts, col_rows, column)
+        sight(self.size, columns, column)
     }
 
     // The rows of one column, as a part of the caller's own list.
-    pub fn look<'a>(self, col_starts: &[u16], col_rows: &'a [u16], column: usize) -> &'a [u16]
-        ensures { Looked self.size column col_starts.now col_rows.now result.now }
+    pub fn look<'a>(self, columns: Listed<'a>, column: usize) -> &'a [u16]
+        ensures { Looked self.size column columns.entry.starts.now columns.entry.entries.now result.now }
     {
-        let span = self.span(col_starts, col_rows, column);
-        let from = span.from;
-        let to = span.to;
-        &col_rows[from..to]
+        let span = self.span(columns, column);
+        &columns.entries[span.from..span.to]
     }
 }

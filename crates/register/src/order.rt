@@ -1,4 +1,4 @@
-// Whether an order is sound for a column listing (cs, cr: starts and rows): the places of its rows are entered in a scratch
+// Whether an order is sound for a column listing: the places of its rows are entered in a scratch
 // list, the greatest place of each column's rows in another, and one pass over the columns in their order sees to the rest.
 ghost use Rattle.std.specs.Prelude.{◌≡◌, ℕ, ◌≤◌, ◌<◌, length};
 ghost use Rattle.pattern.specs.Order.{Sound};
@@ -6,18 +6,18 @@ ghost use Rattle.pattern.specs.Pattern.{Entry};
 ghost use Rattle.pattern.specs.Places.{at, Once};
 ghost use Rattle.listing.specs.Limits.{max_size};
 ghost use Rattle.listing.specs.Says.{Told, Says};
-ghost use Rattle.listing.specs.Listing.{parts, Good};
+ghost use Rattle.listing.specs.Formed.{parts_of};
 ghost use Rattle.register.specs.Order.{Placed, Tops, AtTop};
 
 use crate::Register;
 use crate::places::{NOWHERE, top_place};
-use listing::listing::part;
+use listing::formed::Formed;
 use listing::wide::wide;
 
 // Enters the place of each number. False where one is m or more, or has a place already.
 pub fn enter(m: usize, numbers: &[u16], places: &mut [u16; Register::MAX_SIZE]) -> bool
     requires in_range { (m ≤ max_size) × (m ≤ length numbers.now) }
-    requires none_placed { (length places.old ≡ max_size) × ((x : ℕ) → x < max_size → at places.old x ≡ max_size) }
+    requires none_placed { (x : ℕ) → x < max_size → at places.old x ≡ max_size }
     ensures { Told result (Placed m (at numbers.now) places.new) (¬ Once (at numbers.now) m m) }
 {
     for (t, number) in numbers[..m].iter().enumerate() {
@@ -35,25 +35,22 @@ pub fn enter(m: usize, numbers: &[u16], places: &mut [u16; Register::MAX_SIZE]) 
 
 // No number has a place.
 pub fn clear(places: &mut [u16; Register::MAX_SIZE])
-    requires { length places.old ≡ max_size }
-    ensures { (length places.new ≡ max_size) × ((x : ℕ) → x < max_size → at places.new x ≡ max_size) }
+    ensures { (x : ℕ) → x < max_size → at places.new x ≡ max_size }
 {
     places.fill(NOWHERE);
 }
 
 // The greatest place of a row of each column.
 fn lay_tops(
-    m: usize,
-    cs: &[u16],
-    cr: &[u16],
+    columns: Formed,
     places: &[u16; Register::MAX_SIZE],
     tops: &mut [u16; Register::MAX_SIZE],
 )
-    requires { Good m cs.now cr.now × ((x : ℕ) → x < m → at places.now x < m) × (length tops.old ≡ max_size) }
-    ensures { Tops m places.now (parts m cs.now cr.now) tops.new }
+    requires { (x : ℕ) → x < columns.size → at places.now x < columns.size }
+    ensures { Tops columns.entry.size places.now (parts_of columns.entry) tops.new }
 {
-    for c in 0..m {
-        tops[c] = top_place(places, part(cs, cr, c)) as u16;
+    for c in 0..columns.size {
+        tops[c] = top_place(places, columns.part(c)) as u16;
     }
 }
 
@@ -79,16 +76,16 @@ pub fn topped(m: usize, cs: &[u16], cols: &[u16], tops: &[u16; Register::MAX_SIZ
 }
 
 // Whether the order is sound for the columns.
-pub fn sound(m: usize, cs: &[u16], cr: &[u16], rows: &[u16], cols: &[u16]) -> bool
-    requires { Good m cs.now cr.now × (m ≤ length rows.now) × (m ≤ length cols.now) }
+pub fn sound(columns: Formed, rows: &[u16], cols: &[u16]) -> bool
+    requires { (columns.size ≤ length rows.now) × (columns.size ≤ length cols.now) }
     ensures { Says result
-        (Sound (Entry (parts m cs.now cr.now)) m (at rows.now) (at cols.now)) }
+        (Sound (Entry (parts_of columns.entry)) columns.entry.size (at rows.now) (at cols.now)) }
 {
     let mut places = [NOWHERE; Register::MAX_SIZE];
-    if !enter(m, rows, &mut places) {
+    if !enter(columns.size, rows, &mut places) {
         return false;
     }
     let mut tops = [0u16; Register::MAX_SIZE];
-    lay_tops(m, cs, cr, &places, &mut tops);
-    topped(m, cs, cols, &tops)
+    lay_tops(columns, &places, &mut tops);
+    topped(columns.size, columns.listed.starts, cols, &tops)
 }

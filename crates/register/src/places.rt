@@ -8,12 +8,12 @@ ghost use Rattle.register.specs.Order.{Placed};
 use crate::Register;
 use listing::wide::wide;
 
-// What stands in the scratch list for a number that has no place.
+// What stands in the scratch list for a number that has no place. An Option would double the list, and a call has 8 KiB of stack.
 pub const NOWHERE: u16 = 1000;
 
 // The place of each number, where each stands once.
 pub fn place_all(m: usize, numbers: &[u16], places: &mut [u16; Register::MAX_SIZE])
-    requires { (m ≤ max_size) × (m ≤ length numbers.now) × Once (at numbers.now) m m × (length places.old ≡ max_size) }
+    requires { (m ≤ max_size) × (m ≤ length numbers.now) × Once (at numbers.now) m m }
     ensures { Placed m (at numbers.now) places.new }
 {
     for (t, number) in numbers[..m].iter().enumerate() {

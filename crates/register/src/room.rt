@@ -1,39 +1,19 @@
 // Whether lent lists are long enough.
 ghost use Rattle.listing.specs.Says.{Says};
 ghost use Rattle.register.specs.Takes.{Takes};
-ghost use Rattle.register.specs.Lent.{lists};
+ghost use Rattle.register.specs.Loan.{seen};
 
-// Whether the lists have room for a register of this size with so many entries.
-pub fn takes(
-    size: usize,
-    total: usize,
-    cs: &[u16],
-    cr: &[u16],
-    rs: &[u16],
-    rc: &[u16],
-    or: &[u16],
-    oc: &[u16],
-) -> bool
-    ensures { Says result (Takes size total
-        (lists cs.now cr.now rs.now rc.now or.now oc.now)) }
+use crate::lent::Lent;
+
+// Whether the lists have room for a register of this size with so many entries. Check 2 is another question: it goes by each
+// listing's own last start.
+pub fn takes(size: usize, total: usize, lists: Lent) -> bool
+    ensures { Says result (Takes size total (seen lists.entry)) }
 {
-    if cs.len() <= size {
-        return false;
-    }
-    if cr.len() < total {
-        return false;
-    }
-    if rs.len() <= size {
-        return false;
-    }
-    if rc.len() < total {
-        return false;
-    }
-    if or.len() < size {
-        return false;
-    }
-    if oc.len() < size {
-        return false;
-    }
-    true
+    size < lists.columns.starts.len()
+        && total <= lists.columns.entries.len()
+        && size < lists.rows.starts.len()
+        && total <= lists.rows.entries.len()
+        && size <= lists.order_rows.len()
+        && size <= lists.order_cols.len()
 }

@@ -1,5 +1,4 @@
-// Whether a row listing (rs, rc: starts and columns) is well formed and lists the entries of a column listing (cs, cr: starts and
-// rows): the columns are read in order, and each of a column's rows must have that column as the next that it lists. A row
+// Whether a row listing is well formed and lists the entries of a column listing: the columns are read in order, and each of a column's rows must have that column as the next that it lists. A row
 // then lists what its columns are, which rises, so that the row listing is not gone over by itself. On the way the
 // greatest place of each column's rows is taken, for the order.
 ghost use Rattle.std.specs.Prelude.{◌≡◌, ℕ, ◌+◌, ◌≤◌, ◌<◌, T, length, set};
@@ -9,18 +8,20 @@ ghost use Rattle.pattern.specs.Rising.{Rising};
 ghost use Rattle.pattern.specs.Series.{greatest};
 ghost use Rattle.listing.specs.Limits.{max_size, max_total};
 ghost use Rattle.listing.specs.Says.{Told, Says};
-ghost use Rattle.listing.specs.Listing.{parts, Room, Starts, Good};
+ghost use Rattle.listing.specs.Formed.{parts_of};
+ghost use Rattle.listing.specs.Listing.{Room, Starts};
 ghost use Rattle.listing.specs.Walk.{AllNext, Past, RowsTurned};
 ghost use Rattle.register.specs.Order.{Tops};
 
 use crate::Register;
-use listing::listing::part;
+use listing::formed::Formed;
+use listing::listing::Listed;
 use listing::wide::wide;
 
 // Each row's cursor at the row's start.
 fn set_out(m: usize, starts: &[u16], next: &mut [u16; Register::MAX_SIZE])
-    requires { (m ≤ max_size) × (m < length starts.now) × (length next.old ≡ max_size) }
-    ensures { (length next.new ≡ max_size) × ((r : ℕ) → r < m → at next.new r ≡ at starts.now r) }
+    requires { (m ≤ max_size) × (m < length starts.now) }
+    ensures { (r : ℕ) → r < m → at next.new r ≡ at starts.now r }
 {
     next[..m].copy_from_slice(&starts[..m]);
 }
@@ -35,7 +36,7 @@ fn meet(
     next: &mut [u16; Register::MAX_SIZE],
     tops: &mut [u16; Register::MAX_SIZE],
 ) -> bool
-    requires in_range { (j < max_size) × Rising max_size rows.now × (length next.old ≡ max_size) × (length tops.old ≡ max_size) }
+    requires in_range { (j < max_size) × Rising max_size rows.now }
     requires cursors_low { (r : ℕ) → T (has rows.now r) → at next.old r ≤ max_total + max_size }
     ensures { Told result
         (Past cols.now j rows.now next.old next.new
@@ -54,6 +55,7 @@ fn meet(
         }
         next[r] = (p + 1) as u16;
         let place = places[r];
+        // A branch, since it is foretold: with `max` a check takes a fifth longer.
         if top < place {
             top = place;
         }
@@ -67,32 +69,29 @@ fn all_met(m: usize, starts: &[u16], next: &[u16; Register::MAX_SIZE]) -> bool
     requires { (m ≤ max_size) × (m < length starts.now) }
     ensures { Says result ((r : ℕ) → r < m → at next.now r ≡ at starts.now (r + 1)) }
 {
-    next[..m] == starts[1..=m]
+    next[..m] == starts[1..m + 1]
 }
 
 // Whether the row listing is the columns turned; and the columns' greatest places. The list `next` is lent for the cursors.
 pub fn same(
-    m: usize,
-    cs: &[u16],
-    cr: &[u16],
-    rs: &[u16],
-    rc: &[u16],
+    columns: Formed,
+    rows: Listed,
     next: &mut [u16; Register::MAX_SIZE],
     places: &[u16; Register::MAX_SIZE],
     tops: &mut [u16; Register::MAX_SIZE],
 ) -> bool
-    requires { Good m cs.now cr.now × Room m rs.now rc.now × Starts m rs.now × (length next.old ≡ max_size) × (length tops.old ≡ max_size) }
+    requires { Room columns.size rows.starts.now rows.entries.now × Starts columns.size rows.starts.now }
     ensures { Told result
-        (RowsTurned m (parts m cs.now cr.now) rs.now rc.now
-        × Tops m places.now (parts m cs.now cr.now) tops.new
+        (RowsTurned columns.entry.size (parts_of columns.entry) rows.entry.starts.now rows.entry.entries.now
+        × Tops columns.entry.size places.now (parts_of columns.entry) tops.new
         × (length next.new ≡ max_size) × (length tops.new ≡ max_size))
-        (¬ RowsTurned m (parts m cs.now cr.now) rs.now rc.now) }
+        (¬ RowsTurned columns.entry.size (parts_of columns.entry) rows.entry.starts.now rows.entry.entries.now) }
 {
-    set_out(m, rs, next);
-    for j in 0..m {
-        if !meet(part(cs, cr, j), rc, j, places, next, tops) {
+    set_out(columns.size, rows.starts, next);
+    for j in 0..columns.size {
+        if !meet(columns.part(j), rows.entries, j, places, next, tops) {
             return false;
         }
     }
-    all_met(m, rs, next)
+    all_met(columns.size, rows.starts, next)
 }

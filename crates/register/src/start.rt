@@ -1,32 +1,25 @@
-// A register started from its column listing (cs, cr: starts and rows), in the order that pairs row t with column t: the row
+// A register started from its column listing, in the order that pairs row t with column t: the row
 // listing and the order are written where the checks pass.
 ghost use Rattle.std.specs.Prelude.{◌≡◌, ◌≤◌, length};
 ghost use Rattle.listing.specs.Held.{over};
 ghost use Rattle.listing.specs.Limits.{max_size};
 ghost use Rattle.register.specs.Lent.{lists};
+ghost use Rattle.register.specs.Loan.{seen};
 ghost use Rattle.register.specs.Reply.{fault};
 ghost use Rattle.register.specs.Start.{started, own_places, StartFault, StartsWith};
 
+use crate::lent::Lent;
 use crate::order::sound;
 use crate::room::takes;
 use crate::{Refusal, Register};
-use listing::listing::formed;
+use listing::formed::Formed;
+use listing::listing::Listed;
 use listing::turn::turn;
 use listing::wide::wide;
 
 // The first fault of a start.
-fn start_fault(
-    m: usize,
-    cs: &[u16],
-    cr: &[u16],
-    rs: &[u16],
-    rc: &[u16],
-    or: &[u16],
-    oc: &[u16],
-) -> Result<(), Refusal>
-    ensures { StartFault m
-        (lists cs.now cr.now rs.now rc.now or.now oc.now)
-        (fault result) }
+fn start_fault(m: usize, lists: Lent) -> Result<(), Refusal>
+    ensures { StartFault m (seen lists.entry) (fault result) }
 {
     if m == 0 {
         return Err(Refusal::Size);
@@ -34,17 +27,21 @@ fn start_fault(
     if Register::MAX_SIZE < m {
         return Err(Refusal::Size);
     }
-    if cs.len() <= m {
+    if lists.columns.starts.len() <= m {
         return Err(Refusal::ShortList);
     }
-    if !takes(m, wide(cs[m]), cs, cr, rs, rc, or, oc) {
+    if !takes(m, wide(lists.columns.starts[m]), lists) {
         return Err(Refusal::ShortList);
     }
-    if !formed(m, cs, cr) {
+    if !lists.columns.formed(m) {
         return Err(Refusal::MalformedListing);
     }
     let order = Register::fresh_order();
-    if !sound(m, cs, cr, &order, &order) {
+    let columns = Formed {
+        size: m,
+        listed: lists.columns,
+    };
+    if !sound(columns, &order, &order) {
         return Err(Refusal::OrderUnsound);
     }
     Ok(())
@@ -61,23 +58,35 @@ fn lay_own(m: usize, list: &mut [u16])
 }
 
 // Starts a register.
-pub fn start(
+pub fn start<'a>(
     m: usize,
-    cs: &[u16],
-    cr: &[u16],
-    rs: &mut [u16],
-    rc: &mut [u16],
-    or: &mut [u16],
-    oc: &mut [u16],
+    columns: Listed<'a>,
+    row_starts: &'a mut [u16],
+    row_cols: &'a mut [u16],
+    order_rows: &'a mut [u16],
+    order_cols: &'a mut [u16],
 ) -> Result<(), Refusal>
     ensures { StartsWith m
-        (lists cs.now cr.now rs.old rc.old or.old oc.old)
+        (lists columns.entry.starts.now columns.entry.entries.now row_starts.old row_cols.old order_rows.old order_cols.old)
         (started (fault result)
-        (lists cs.now cr.now rs.new rc.new or.new oc.new)) }
+        (lists columns.entry.starts.now columns.entry.entries.now row_starts.new row_cols.new order_rows.new order_cols.new)) }
 {
-    start_fault(m, cs, cr, rs, rc, or, oc)?;
-    turn(m, cs, cr, rs, rc);
-    lay_own(m, or);
-    lay_own(m, oc);
+    let lists = Lent {
+        columns,
+        rows: Listed {
+            starts: row_starts,
+            entries: row_cols,
+        },
+        order_rows,
+        order_cols,
+    };
+    start_fault(m, lists)?;
+    let columns = Formed {
+        size: m,
+        listed: columns,
+    };
+    turn(columns, row_starts, row_cols);
+    lay_own(m, order_rows);
+    lay_own(m, order_cols);
     Ok(())
 }

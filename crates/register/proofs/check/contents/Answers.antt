@@ -11,7 +11,8 @@ use Rattle.listing.specs.Says.{Says}
 use Rattle.listing.specs.Walk.{RowsTurned}
 use Rattle.listing.proofs.Answers.{refuted, shown, says_as}
 use Rattle.register.specs.Checks.{Contents}
-use Rattle.register.specs.Lent.{Lists, lists, columns, OrderSound}
+use Rattle.register.specs.Lent.{Lists, columns, OrderSound}
+use Rattle.register.specs.Loan.{seen}
 use Rattle.register.specs.Order.{Placed}
 use Rattle.register.proofs.Agreement.{turned_formed, turned_agrees, agrees_turned}
 use Rattle.register.proofs.Orders.{there_placed}
@@ -25,13 +26,13 @@ module _ (c : After-enter-entered) where
   m = c.args.m
 
   abbrev l : Lists
-  l = lists c.args.cs.now c.args.cr.now c.args.rs.now c.args.rc.now c.args.or.now c.args.oc.now
+  l = seen c.args.lists
 
   cols_formed : Listing m l.col_starts l.col_rows
   cols_formed = shown c.formed.ensures c.if-not-formed.false
 
   cols_good : Good m l.col_starts l.col_rows
-  cols_good = record { small = c.requires.sized.0.1; room = c.requires.sized.1.columns_fit; formed = cols_formed }
+  cols_good = record { small = c.requires.0.1; room = c.requires.1.columns_fit; formed = cols_formed }
 
   row_starts : Starts m l.row_starts
   row_starts = shown c.starts_right.ensures c.if-not-starts_right.false
@@ -65,6 +66,18 @@ some_fault (holds p e) z = omega arith
 
 turned : (c : Else-not-same) → Turned (goal.at.Else-not-same c).After-enter-entered
 turned c = (shown c.same.ensures c.if-not-same.false).0
+
+pub returns-then-not-formed : goal.returns-then-not-formed
+returns-then-not-formed c = record {
+  contents = fails (λ p. refuted c.formed.ensures c.if-not-formed.true p.columns_formed) refl;
+  places_known = λ e. absurd (omega (arith, e));
+}
+
+pub returns-then-not-starts_right : goal.returns-then-not-starts_right
+returns-then-not-starts_right c = record {
+  contents = fails (λ p. refuted c.starts_right.ensures c.if-not-starts_right.true p.rows_formed.starts_right) refl;
+  places_known = λ e. absurd (omega (arith, e));
+}
 
 pub returns-then-not-same : goal.returns-then-not-same
 returns-then-not-same c =
@@ -114,7 +127,19 @@ returns c =
       };
     }
 
+pub enter-entered-requires : goal.enter-entered-requires
+enter-entered-requires c = record {
+  in_range = (c.requires.0.1, c.requires.1.order_rows_fit);
+  none_placed = c.clear.ensures;
+}
+
 pub same-requires : goal.same-requires
 same-requires c =
     let after_enter_entered = (goal.at.same-requires c).After-enter-entered in
-    (cols_good after_enter_entered, c.requires.sized.1.rows_fit, row_starts after_enter_entered, c.requires.scratch.0, c.requires.scratch.2)
+    (c.requires.1.rows_fit, row_starts after_enter_entered)
+
+pub unlike-requires : goal.unlike-requires
+unlike-requires c = (c.requires.1.rows_fit, row_starts (goal.at.unlike-requires c).After-enter-entered)
+
+pub topped-requires : goal.topped-requires
+topped-requires c = (c.requires.0.1, c.requires.1.columns_fit.starts_long, c.requires.1.order_cols_fit)

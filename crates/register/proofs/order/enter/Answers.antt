@@ -6,7 +6,7 @@ use lib.Seq.{length-take-le}
 use Rattle.pattern.specs.Places.{at}
 use Rattle.listing.proofs.Answers.{told_yes, told_no}
 use Rattle.listing.proofs.Between.{first_at}
-use Rattle.register.proofs.Orders.{entered_twice, entered_more, entered_all}
+use Rattle.register.proofs.Orders.{entered_none, entered_twice, entered_more, entered_all}
 use Rattle.register.proofs.order.enter.Goals as goal
 use Rattle.register.proofs.order.enter.Goals.{After-wide-x}
 
@@ -17,6 +17,14 @@ module _ (c : After-wide-x) where
 
   is_number : c.wide-x.result ≡ at c.args.numbers.now c.loop-t.t
   is_number = c.wide-x.ensures ∙ (first_at c.args.numbers.now c.requires.in_range.1 (omega arith)).1
+
+pub loop-t-init : goal.loop-t-init
+loop-t-init c = entered_none _ (omega arith) (λ x h. omega (arith, c.requires.none_placed x h))
+
+pub returns-then-m-x : goal.returns-then-m-x
+returns-then-m-x c =
+    let s = (goal.at.returns-then-m-x c).After-wide-x in
+    told_no (λ o. omega (arith, is_number s, o.below c.loop-t.t (in_range s)))
 
 pub returns-then-places-x-lt-NOWHERE : goal.returns-then-places-x-lt-NOWHERE
 returns-then-places-x-lt-NOWHERE c =

@@ -23,6 +23,9 @@ module _ (c : After-wide) where
   number_in : c.wide.result < max_size
   number_in = omega (arith, is_number, c.requires.2.below c.loop-t.t in_range, c.requires.0)
 
+pub loop-t-init : goal.loop-t-init
+loop-t-init c = (omega arith, λ s h. absurd (omega arith))
+
 pub loop-t-preserved : goal.loop-t-preserved
 loop-t-preserved c =
     let s = (goal.at.loop-t-preserved c).After-wide in

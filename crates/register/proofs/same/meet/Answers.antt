@@ -16,7 +16,7 @@ use Rattle.register.proofs.same.meet.Goals.{After-wide, After-wide-r, then-top-p
 
 pub loop-row-init : goal.loop-row-init
 unfolding greatest
-loop-row-init c = (past_none c.args.rows.now c.requires.in_range.2, refl)
+loop-row-init c = (past_none c.args.rows.now (omega arith), refl)
 
 -- A turn, at row r.
 module _ (c : After-wide-r) where
