@@ -35,8 +35,8 @@ join_determined κs a h x y ws vs p q = (same p.0 q.0, λ i. (tt, (tt, (same p.1
 
 -- Both listings are told; what the lent scratch list holds afterwards is not.
 pub store_determined : DeterminedAs store-kinds.ps store-kinds.r store.Pre store.Post {C = λ κs a. List ℕ × List ℕ × List ℕ × List ℕ} (λ κs x. x)
-    (λ κs a ws. (ws.1.0, ws.1.1.0, ws.1.1.1.0, ws.1.1.1.1.0))
+    (λ κs a ws. (ws.1.0.starts.now, ws.1.0.entries.now, ws.1.1.0.starts.now, ws.1.1.0.entries.now))
 store_determined κs a h x y ws vs p q =
-    let columns = held_one _ _ _ _ _ _ _ p.0 q.0 in
-    let rows = held_one _ _ _ _ _ _ _ p.1 q.1 in
+    let columns = held_one _ _ _ _ _ _ _ p.0.held q.0.held in
+    let rows = held_one _ _ _ _ _ _ _ p.1.held q.1.held in
     (refl, λ i. (columns.0 i, columns.1 i, rows.0 i, rows.1 i))

@@ -21,7 +21,7 @@ module _ (c : After-wide-to) where
   m = c.args.m
 
   abbrev cs : List ℕ
-  cs = c.args.cs.now
+  cs = c.args.columns.now.starts.now
 
   abbrev new : List ℕ
   new = c.args.rows.now
@@ -35,27 +35,26 @@ module _ (c : After-wide-to) where
   rise : (k : ℕ) → k ≤ m → at cs k ≤ at cs m
   rise k h = starts_rise c.requires.good.0.formed.starts_right k m h (omega arith)
 
-  total : start_of (filled m (parts m cs c.args.cr.now) c.args.c new) m ≡ at cs m + length new
+  total : start_of (filled m (parts m cs c.args.columns.now.entries.now) c.args.c new) m ≡ at cs m + length new
   total = filled_total c.requires.good.0 new c.requires.good.1 c.requires.good.2
 
-  fits : at cs m + length new ≤ length c.args.cr.now
+  fits : at cs m + length new ≤ length c.args.columns.now.entries.now
   fits = omega (arith, total, c.requires.room.1)
 
-pub copy_within-requires : goal.copy_within-requires
-copy_within-requires c =
-    let w = (goal.at.copy_within-requires c).After-wide-to in
-    let r = rise w c.args.c (omega (arith, c.requires.good.1)) in
-    record {
-      start_le_end = omega (arith, begins w, ends w, r);
-      in_bounds = omega (arith, ends w, fits w);
-      dest_in_bounds = omega (arith, begins w, ends w, r, fits w);
-      not_exhausted = tt;
-    }
+pub copy_within-requires-clause-start_le_end : goal.copy_within-requires-clause-start_le_end
+copy_within-requires-clause-start_le_end c =
+    let w = (goal.at.copy_within-requires-clause-start_le_end c).After-wide-to in
+    omega (arith, begins w, ends w, rise w c.args.c (omega (arith, c.requires.good.1)))
+
+pub copy_within-requires-clause-dest_in_bounds : goal.copy_within-requires-clause-dest_in_bounds
+copy_within-requires-clause-dest_in_bounds c =
+    let w = (goal.at.copy_within-requires-clause-dest_in_bounds c).After-wide-to in
+    omega (arith, begins w, ends w, rise w c.args.c (omega (arith, c.requires.good.1)), fits w)
 
 -- The later entries have gone up.
 module _ (c : After-copy_within) where
-  up : c.copy_within.new.self ≡ put (c.wide-from.result + length c.args.rows.now) (between c.wide-from.result c.wide-to.result c.args.cr.now) c.args.cr.now
-  up = c.copy_within.ensures.after ∙ moved c.args.cr.now c.wide-from.result c.wide-to.result (c.wide-from.result + length c.args.rows.now)
+  up : c.copy_within.new.self ≡ put (c.wide-from.result + length c.args.rows.now) (between c.wide-from.result c.wide-to.result c.args.columns.now.entries.now) c.args.columns.now.entries.now
+  up = c.copy_within.ensures.after ∙ moved c.args.columns.now.entries.now c.wide-from.result c.wide-to.result (c.wide-from.result + length c.args.rows.now)
       (let w = (goal.at.After-copy_within c).After-wide-to in omega (arith, ends w, fits w))
 
 pub raise-requires : goal.raise-requires
@@ -71,5 +70,8 @@ copy-requires c =
 pub returns : goal.returns
 returns c =
     let after_wide_to = (goal.at.returns c).After-wide-to in
-    filled_held c.requires.good.0 (new after_wide_to) c.requires.good.1 c.requires.good.2 (begins after_wide_to) (ends after_wide_to) refl c.requires.room.1 (up (goal.at.returns c).After-copy_within) c.raise.ensures
-    c.copy.ensures
+    record {
+      same = record { starts = refl; entries = refl };
+      held = filled_held c.requires.good.0 (new after_wide_to) c.requires.good.1 c.requires.good.2 (begins after_wide_to) (ends after_wide_to) refl c.requires.room.1 (up (goal.at.returns c).After-copy_within) c.raise.ensures
+          c.copy.ensures;
+    }

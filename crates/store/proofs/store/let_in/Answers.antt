@@ -1,6 +1,6 @@
 -- `let_in`: the place of c is looked up in part k, the later entries go up and c is stored, and the starts are raised.
 use mathlib.Core.List.{List}
-use mathlib.Core.Path.{◌≡◌, sym, ap, ◌∙◌, subst}
+use mathlib.Core.Path.{◌≡◌, refl, sym, ap, ◌∙◌, subst}
 use Prim.Native.Nat.{ℕ, ◌+◌, ◌-◌, ◌≤◌}
 use native.Mathlib.Omega.{arith}
 use lib.ListN.{set}
@@ -17,10 +17,10 @@ use Rattle.store.proofs.store.let_in.Goals.{After-below}
 -- The place, once it has been found.
 module _ (c : After-below) where
   abbrev starts : List ℕ
-  starts = c.args.starts.now
+  starts = c.args.listed.now.starts.now
 
   abbrev entries : List ℕ
-  entries = c.args.entries.now
+  entries = c.args.listed.now.entries.now
 
   abbrev k : ℕ
   k = c.args.k
@@ -29,7 +29,7 @@ module _ (c : After-below) where
   begins = c.wide.ensures
 
   cut : Cut c.args.c c.below.result (part starts entries k)
-  cut = rw c.part.ensures at c.below.ensures
+  cut = rw c.view.ensures.0 at (rw c.view.ensures.1 at (rw c.part.ensures at c.below.ensures))
 
   upto : at starts k + c.below.result ≤ at starts (k + 1)
   upto =
@@ -42,12 +42,15 @@ returns c =
     let a = c.args in
     let q : ℕ = c.wide.result + c.below.result in
     let x : q - at (starts after_below) (k after_below) ≡ c.below.result = omega (arith, begins after_below) in
-    let n : q + (a.i + 1) ≡ q + a.i + 1 = omega arith in
-    record {
-      from = omega (arith, begins after_below);
-      cut = subst (λ (n : ℕ). Cut a.c n (part (starts after_below) (entries after_below) (k after_below))) (sym x) (cut after_below);
-      entries_now =
-          ap (λ (l : List ℕ). set l (q + a.i) a.c) (c.copy_within.ensures.after ∙ moved (entries after_below) q a.end (q + (a.i + 1)) (omega (arith, c.requires)) ∙ ap (λ (n : ℕ). put n (between q a.end (entries after_below)) (entries after_below)) n)
-          ∙ put_front (q + a.i) (between q a.end (entries after_below)) (entries after_below) a.c (omega (arith, begins after_below, upto after_below, c.requires));
-      raised = c.raise.ensures;
-    }
+    let n : q + (a.i + 1) ≡ q + a.i + 1 = omega arith in (
+      record { starts = refl; entries = refl },
+      refl,
+      record {
+        from = omega (arith, begins after_below);
+        cut = subst (λ (n : ℕ). Cut a.c n (part (starts after_below) (entries after_below) (k after_below))) (sym x) (cut after_below);
+        entries_now =
+            ap (λ (l : List ℕ). set l (q + a.i) a.c) (c.copy_within.ensures.after ∙ moved (entries after_below) q a.rest.end (q + (a.i + 1)) (omega (arith, c.requires)) ∙ ap (λ (n : ℕ). put n (between q a.rest.end (entries after_below)) (entries after_below)) n)
+            ∙ put_front (q + a.i) (between q a.rest.end (entries after_below)) (entries after_below) a.c (omega (arith, begins after_below, upto after_below, c.requires));
+        raised = c.raise.ensures;
+      },
+    )
