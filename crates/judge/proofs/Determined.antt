@@ -25,5 +25,5 @@ judges_one a rows cols eta rows' cols' eta' j j' J p q =
     go (Elimination rs cs b e) t u = (same t.0 u.0, same t.1 u.1)
 
 -- The judgment and the eta list are told. The scratch lists have the places of PERMUTED's order, and else nothing that is told.
-pub judge_determined : DeterminedAs judge-kinds.ps judge-kinds.r judge.Pre judge.Post (λ κs x. x) (λ κs a ws. ws.1.1.1.1.1.1.1.1.1.1.1.1.1.0)
-judge_determined κs a h x y ws vs p q = judges_one _ _ _ _ _ _ _ x y h.0.0 p.0 q.0
+pub judge_determined : DeterminedAs judge-kinds.ps judge-kinds.r judge.Pre judge.Post (λ κs x. x) (λ κs a ws. ws.1.1.1.1.1.1.0)
+judge_determined κs a h x y ws vs p q = judges_one _ _ _ _ _ _ _ x y h.0.0 p q

@@ -12,15 +12,14 @@ use Rattle.pattern.proofs.Clearing.{new_column, old_column, spiked_columns_rise}
 use Rattle.pattern.proofs.Tests.{choose_same, choose_other}
 use Rattle.pattern.proofs.Turning.{Columns}
 use Rattle.listing.specs.Listing.{part, parts, Good}
-use Rattle.listing.proofs.Listings.{part_is, good_columns, good_within}
-use Rattle.listing.proofs.Rises.{rising_few}
-use Rattle.judge.specs.Peel.{spiked, spiked_part, Readable}
+use Rattle.listing.proofs.Listings.{part_is, good_columns}
+use Rattle.judge.specs.Peel.{spiked, spiked_part}
 
 module _ (cs cr : List ℕ) (c : ℕ) (new : List ℕ) (y : ℕ) where
-  pub part_new : y ≡ c → spiked_part cs cr c new y ≡ new
+  part_new : y ≡ c → spiked_part cs cr c new y ≡ new
   part_new e = choose_same y c new (part cs cr y) e
 
-  pub part_old : y ≢ c → spiked_part cs cr c new y ≡ part cs cr y
+  part_old : y ≢ c → spiked_part cs cr c new y ≡ part cs cr y
   part_old n = choose_other y c new (part cs cr y) n
 
 module _ {m : ℕ} {cs cr : List ℕ} {c : ℕ} {new : List ℕ} (G : Good m cs cr) (h : c < m) (R : Rising m new) where
@@ -47,13 +46,6 @@ module _ {m : ℕ} {cs cr : List ℕ} {c : ℕ} {new : List ℕ} (G : Good m cs 
         changed = λ r. (λ t. subst (λ (l : List ℕ). T (has l r)) spiked_new t, λ t. rw spiked_new t);
       }
 
-  -- Each column can be read off the lists.
-  pub spiked_readable : (y : ℕ) → y < m → Readable cs cr c new y
-  spiked_readable y u =
-      let R = subst (Rising m) (spiked_is y u) (spiked_columns.rise y u) in
-      record {
-        started = omega (arith, G.room.starts_long);
-        within = good_within G y u;
-        below = λ k b. omega (arith, R.below k b, G.small);
-        few = omega (arith, rising_few R, G.small);
-      }
+  -- Each column, read off the lists, rises.
+  pub spiked_part_rises : (y : ℕ) → y < m → Rising m (spiked_part cs cr c new y)
+  spiked_part_rises y u = subst (Rising m) (spiked_is y u) (spiked_columns.rise y u)

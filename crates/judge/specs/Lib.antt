@@ -2,5 +2,6 @@
 pub mod Call
 pub mod Sets
 pub mod Peel
+pub mod Spiked
 pub mod Reach
 pub mod Judge

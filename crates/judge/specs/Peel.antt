@@ -1,12 +1,12 @@
 -- The peel of the spiked pattern in scratch lists, for the contracts of the steps of `peel`. Rests on Sets.antt, `listing` and
 -- `register`.
-use Rattle.std.specs.Prelude.{cond, List, ◌≢◌, ◌↔◌, ◌≡◌, ℕ, ◌+◌, ◌≤◌, ◌<◌, max, T, eqb, leb, length, set}
+use Rattle.std.specs.Prelude.{Option, Some, None, cond, List, ◌≢◌, ◌↔◌, ◌≡◌, ℕ, ◌+◌, ◌≤◌, ◌<◌, max, T, eqb, leb, length, set}
 use Rattle.pattern.specs.Pattern.{has, Entry}
 use Rattle.pattern.specs.Peel.{Whole}
 use Rattle.pattern.specs.Places.{at, place}
 use Rattle.pattern.specs.Series.{greatest}
 use Rattle.listing.specs.Limits.{max_size}
-use Rattle.listing.specs.Listing.{Within, part, parts}
+use Rattle.listing.specs.Listing.{part, parts}
 use Rattle.register.specs.Order.{Placed}
 use Rattle.judge.specs.Sets.{counted}
 
@@ -25,13 +25,6 @@ unplaced places l = counted (λ k. leb max_size (at places (at l k))) (length l)
 -- The numbers of a list are below `max_size`.
 abbrev pub RowsLow : (l : List ℕ) → Type 0
 RowsLow l = (k : ℕ) → k < length l → at l k < max_size
-
--- Column `y` of the spiked pattern can be read and its rows counted.
-pub record Readable (starts entries : List ℕ) (c : ℕ) (new : List ℕ) (y : ℕ) : Type 0 where
-  pub started : y + 1 < length starts
-  pub within : Within starts entries y
-  pub below : RowsLow (spiked_part starts entries c new y)
-  pub few : length (spiked_part starts entries c new y) ≤ max_size
 
 -- Where the window of the places that can change, which begins at `p`, ends: at the place after `p` and after those of all new
 -- rows.
@@ -72,11 +65,10 @@ pub record Searched (counts : List ℕ) (p t : ℕ) : Type 0 where
   pub after : p ≤ t
   pub none : (u : ℕ) → p ≤ u → u < t → at counts u ≢ 1
 
--- `t` is the first place from `from` up to `e` that has a count of one, or it is `e`.
-pub record NextOne (e : ℕ) (counts : List ℕ) (from t : ℕ) : Type 0 where
-  pub searched : Searched counts from t
-  pub within : t ≤ e
-  pub there : t < e → at counts t ≡ 1
+-- It is the first place from `from` up to `e` that has a count of one; or there is none.
+abbrev pub NextOne : (e : ℕ) (counts : List ℕ) (from : ℕ) → Option ℕ → Type 0
+NextOne e counts from (Some t) = Searched counts from t × (t < e) × (at counts t ≡ 1)
+NextOne e counts from None = Searched counts from e
 
 -- Number `i` of a list of columns is not `c`, and its old place is before `e`.
 abbrev pub Hit : (cols : List ℕ) (c e : ℕ) (old : List ℕ) (i : ℕ) → Type 0

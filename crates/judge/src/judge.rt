@@ -7,7 +7,7 @@ ghost use Rattle.pattern.specs.Places.{at, place};
 ghost use Rattle.pattern.specs.Rising.{Rising};
 ghost use Rattle.pattern.specs.Series.{greatest};
 ghost use Rattle.listing.specs.Limits.{max_size};
-ghost use Rattle.register.specs.Lent.{lists};
+ghost use Rattle.register.specs.Loan.{seen};
 ghost use Rattle.register.specs.Marks.{flagged};
 ghost use Rattle.register.specs.Order.{Placed};
 ghost use Rattle.judge.specs.Call.{call};
@@ -17,9 +17,13 @@ use crate::Judgment;
 use crate::marks::{hits, lay};
 use crate::peel::{peel, window_end};
 use crate::reach::sweep;
+use crate::spiked::Spiked;
+use listing::formed::Formed;
 use register::Register;
+use register::lent::Lent;
 use register::marks::Marks;
 use register::places::{place_all, top_place};
+use register::scratch::Scratch;
 
 // What ELIMINATION tells: the bump, and the rows paired with the reached columns but c's, which is at place p. The places are those
 // of the rows.
@@ -40,48 +44,54 @@ fn eliminate(
     Judgment::Elimination { bump, eta_count }
 }
 
-// The judgment on column c, at place p, with the new rows. `places` has the place of each row and `old` that of each column, and
-// after PERMUTED their new ones. The counts are lent for the peel, which spoils the places where it fails, so that they are laid anew.
-pub fn judge(
+// The judgment on column c, at place p, with the new rows. The scratch lists have the places of the rows and of the columns, and
+// after PERMUTED their new ones. The peel spoils the places where it fails, so that they are laid anew.
+pub fn judge<'a>(
     m: usize,
-    cs: &[u16],
-    cr: &[u16],
-    rs: &[u16],
-    rc: &[u16],
-    or: &[u16],
-    oc: &[u16],
+    lists: Lent<'a>,
     c: usize,
-    new: &[u16],
+    new: &'a [u16],
     p: usize,
-    counts: &mut [u16; Register::MAX_SIZE],
-    old: &mut [u16; Register::MAX_SIZE],
-    places: &mut [u16; Register::MAX_SIZE],
+    scratch: &mut Scratch,
     eta: &mut [u16],
 ) -> Judgment
-    requires judgeable { Judgeable (call m (lists cs.now cr.now rs.now rc.now or.now oc.now) c new.now eta.old) × (m ≤ length eta.old) }
-    requires placed { (p ≡ place (at oc.now) m c) × Placed m (at oc.now) old.old × Placed m (at or.now) places.old × (length counts.old ≡ max_size) }
-    ensures judges { Judges
-        (call m (lists cs.now cr.now rs.now rc.now or.now oc.now)
-        c new.now eta.old)
-        places.new old.new eta.new result }
-    ensures lengths { (length places.new ≡ max_size) × (length counts.new ≡ max_size) }
+    requires judgeable { Judgeable (call m (seen lists) c new.now eta.old) × (m ≤ length eta.old) }
+    requires placed { (p ≡ place (at lists.order_cols.now) m c) × Placed m (at lists.order_cols.now) scratch.old.col_places
+        × Placed m (at lists.order_rows.now) scratch.old.row_places }
+    ensures { Judges (call m (seen lists.entry) c new.now eta.old)
+        scratch.new.row_places scratch.new.col_places eta.new result }
 {
     let empty = Register::empty_marks();
     let mut marks = empty.marks;
     marks[p] = true;
-    let end = window_end(p, new, places);
-    sweep(m, rs, rc, or, old, p, end, &mut marks);
-    let met = hits(&marks, new, places);
+    let rows = Formed {
+        size: m,
+        listed: lists.rows,
+    };
+    let order_rows = lists.order_rows;
+    let order_cols = lists.order_cols;
+    let end = window_end(p, new, &scratch.row_places);
+    sweep(rows, order_rows, &scratch.col_places, p, end, &mut marks);
+    let met = hits(&marks, new, &scratch.row_places);
     if met == 0 {
         return Judgment::Singular;
     }
     if met == 1 {
-        if peel(m, cs, cr, rs, rc, or, oc, c, new, p, counts, old, places) {
+        let columns = Formed {
+            size: m,
+            listed: lists.columns,
+        };
+        let pattern = Spiked {
+            columns,
+            column: c,
+            new,
+        };
+        if peel(pattern, rows, order_rows, order_cols, p, scratch) {
             return Judgment::Permuted;
         }
-        place_all(m, or, places);
-        place_all(m, oc, old);
+        place_all(m, order_rows, &mut scratch.row_places);
+        place_all(m, order_cols, &mut scratch.col_places);
     }
-    sweep(m, rs, rc, or, old, end, m, &mut marks);
-    eliminate(m, new, p, &marks, places, eta)
+    sweep(rows, order_rows, &scratch.col_places, end, m, &mut marks);
+    eliminate(m, new, p, &marks, &scratch.row_places, eta)
 }

@@ -6,6 +6,7 @@ pub mod judge;
 mod marks;
 mod peel;
 mod reach;
+mod spiked;
 
 // The verdict on a replacement; ELIMINATION with its bump and the number of its eta rows.
 #[derive(Drop)]

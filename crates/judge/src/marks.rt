@@ -60,7 +60,7 @@ pub fn mark_places(
     places: &[u16; Register::MAX_SIZE],
     marks: &mut [bool; Marks::ROOM],
 )
-    requires { Markable places.now numbers.now × (length marks.old ≡ max_mark) }
+    requires { Markable places.now numbers.now }
     ensures { (length marks.new ≡ max_mark)
         × WithPlaces (flagged marks.old) (flagged marks.new) (at places.now) numbers.now }
 {

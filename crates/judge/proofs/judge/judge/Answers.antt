@@ -7,7 +7,7 @@ use mathlib.Core.Path.{◌≡◌, sym, ap, ◌∙◌, subst}
 use Prim.Native.Nat.{ℕ, ◌<◌}
 use native.Mathlib.Omega.{arith}
 use lib.Dec.{T}
-use lib.ListN.{length, set, length-set}
+use lib.ListN.{length, set}
 use Rattle.pattern.specs.Order.{Triangular}
 use Rattle.pattern.specs.Pattern.{has}
 use Rattle.pattern.specs.Places.{at, place}
@@ -17,10 +17,12 @@ use Rattle.pattern.proofs.Rises.{rising_below}
 use Rattle.pattern.proofs.Tests.{has_among, among_has}
 use Rattle.listing.specs.Limits.{max_size, max_mark}
 use Rattle.listing.proofs.Rises.{rising_once}
-use Rattle.register.specs.Lent.{lists, rows}
+use Rattle.register.specs.Lent.{rows}
+use Rattle.register.specs.Loan.{seen}
 use Rattle.register.specs.Marks.{flagged, unmarked}
 use Rattle.register.specs.Order.{Placed}
 use Rattle.register.specs.declared.marks.Marks.{Marks}
+use Rattle.register.specs.declared.scratch.Scratch.{Scratch}
 use Rattle.register.proofs.Orders.{placed_below}
 use Rattle.register.proofs.Soundness.{rows_good}
 use Rattle.judge.specs.Call.{Call, call}
@@ -39,9 +41,7 @@ use Rattle.judge.proofs.judge.judge.Goals.{After-hits-met, After-sweep, After-sw
 module _ (begun : Start) where
   abbrev asked : Call
   asked =
-      call begun.args.m
-      (lists begun.args.cs.now begun.args.cr.now begun.args.rs.now begun.args.rc.now begun.args.or.now begun.args.oc.now)
-      begun.args.c begun.args.new.now begun.args.eta.now
+      call begun.args.m (seen begun.args.lists) begun.args.c begun.args.new.now begun.args.eta.now
 
   J : Judgeable asked
   J = begun.requires.judgeable.0
@@ -53,12 +53,12 @@ module _ (begun : Start) where
   col = at asked.lists.order_cols
 
   abbrev places : List ℕ
-  places = begun.args.places.now
+  places = begun.args.scratch.now.row_places
 
   rows_placed : Placed asked.size row places
   rows_placed = begun.requires.placed.2
 
-  cols_placed : Placed asked.size col begun.args.old.now
+  cols_placed : Placed asked.size col begun.args.scratch.now.col_places
   cols_placed = begun.requires.placed.1
 
   p_place : (begun.args.p < asked.size) × (col begun.args.p ≡ asked.column)
@@ -115,7 +115,7 @@ module _ (c : After-window_end-end) where
 pub sweep-requires-clause-window : goal.sweep-requires-clause-window
 sweep-requires-clause-window c =
     let windowed = (goal.at.sweep-requires-clause-window c).After-window_end-end in
-    (omega (arith, (ending windowed).after), (ending windowed).within, placed_below c.requires.placed.1, length-set (unset windowed) _ true ∙ unset_long windowed)
+    (omega (arith, (ending windowed).after), (ending windowed).within, placed_below c.requires.placed.1)
 
 -- The places before the window's end have been swept.
 module _ (c : After-sweep) where
@@ -180,12 +180,12 @@ module _ (c : After-hits-met) where
       let i : a.0 < length new = omega (arith, a.2, a.3) in
       two_met (J start_of_hits_met) (at new a.0) (at new a.1) (λ z. omega (arith, a.2, (rising_once (J start_of_hits_met).new_rise).once a.0 a.1 i a.3 z)) (met_of a.0 i a.4) (met_of a.1 a.3 a.5)
 
-pub returns-then-met-eq0-clause-judges : goal.returns-then-met-eq0-clause-judges
-returns-then-met-eq0-clause-judges c =
-    judged_singular c.requires.judgeable.0 (none_met (goal.at.returns-then-met-eq0-clause-judges c).After-hits-met c.if-met-eq0.true)
+pub returns-then-met-eq0 : goal.returns-then-met-eq0
+returns-then-met-eq0 c =
+    judged_singular c.requires.judgeable.0 (none_met (goal.at.returns-then-met-eq0 c).After-hits-met c.if-met-eq0.true)
 
-pub returns-then-peel-clause-judges : goal.returns-then-peel-clause-judges
-returns-then-peel-clause-judges c = judged_permuted c.requires.judgeable.0 (c.peel.ensures.told.yes c.if-peel.true)
+pub returns-then-peel : goal.returns-then-peel
+returns-then-peel c = judged_permuted c.requires.judgeable.0 (c.peel.ensures.yes c.if-peel.true)
 
 -- What is known where the ways join.
 module _ (c : Joined-met-eq1) where
@@ -197,28 +197,28 @@ module _ (c : Joined-met-eq1) where
 
   none : ¬ Triangular (Spike (replace.asked (asked start_of_met_eq1))) (asked start_of_met_eq1).size
   none = elim c.if-met-eq1.branch [
-    | then-met-eq1+else-peel w ↦ w.peel.ensures.told.no w.if-peel.false
+    | then-met-eq1+else-peel w ↦ w.peel.ensures.no w.if-peel.false
     | else-met-eq1 w ↦ no_order after_hits_met c.if-met-eq0.false w.if-met-eq1.false
   ]
 
   abbrev RowsPlaced : List ℕ → Type 0
   RowsPlaced = Placed (asked start_of_met_eq1).size (row start_of_met_eq1)
 
-  rows_again : RowsPlaced c.if-met-eq1.places
+  rows_again : RowsPlaced c.if-met-eq1.scratch.row_places
   rows_again =
       elim c.if-met-eq1.branch [
-        | then-met-eq1+else-peel w ↦ subst RowsPlaced (sym w.places-is) w.place_all.ensures
-        | else-met-eq1 w ↦ subst RowsPlaced (sym w.places-is) (rows_placed start_of_met_eq1)
+        | then-met-eq1+else-peel w ↦ subst (λ (s : Scratch). RowsPlaced s.row_places) (sym w.scratch-is) w.place_all.ensures
+        | else-met-eq1 w ↦ subst (λ (s : Scratch). RowsPlaced s.row_places) (sym w.scratch-is) (rows_placed start_of_met_eq1)
       ]
 
   abbrev ColsPlaced : List ℕ → Type 0
   ColsPlaced = Placed (asked start_of_met_eq1).size (col start_of_met_eq1)
 
-  cols_again : ColsPlaced c.if-met-eq1.old
+  cols_again : ColsPlaced c.if-met-eq1.scratch.col_places
   cols_again =
       elim c.if-met-eq1.branch [
-        | then-met-eq1+else-peel w ↦ subst ColsPlaced (sym w.old-is) w.place_all-then-met-eq1.ensures
-        | else-met-eq1 w ↦ subst ColsPlaced (sym w.old-is) (cols_placed start_of_met_eq1)
+        | then-met-eq1+else-peel w ↦ subst (λ (s : Scratch). ColsPlaced s.col_places) (sym w.scratch-is) w.place_all-then-met-eq1.ensures
+        | else-met-eq1 w ↦ subst (λ (s : Scratch). ColsPlaced s.col_places) (sym w.scratch-is) (cols_placed start_of_met_eq1)
       ]
 
   met : (x : ℕ) × Met (J start_of_met_eq1) x
@@ -226,7 +226,7 @@ module _ (c : Joined-met-eq1) where
 
 pub sweep-requires-2-clause-window : goal.sweep-requires-2-clause-window
 sweep-requires-2-clause-window c =
-    ((ending (goal.at.sweep-requires-2-clause-window c).After-window_end-end).within, omega arith, placed_below (cols_again (goal.at.sweep-requires-2-clause-window c).Joined-met-eq1), c.sweep.ensures.0)
+    ((ending (goal.at.sweep-requires-2-clause-window c).After-window_end-end).within, omega arith, placed_below (cols_again (goal.at.sweep-requires-2-clause-window c).Joined-met-eq1))
 
 -- All places have been swept.
 module _ (c : After-sweep-2) where
@@ -249,7 +249,7 @@ eliminate-requires c =
       new_rise = ((J start).new_rise, c_before_top (J start) (met joined_met_eq1).0 (met joined_met_eq1).1 c.requires.placed.0 (rows_again joined_met_eq1));
     }
 
-pub returns-clause-judges : goal.returns-clause-judges
-returns-clause-judges c =
-    let joined_met_eq1 = (goal.at.returns-clause-judges c).Joined-met-eq1 in
-    judged_elimination c.requires.judgeable.0 (met joined_met_eq1).0 (met joined_met_eq1).1 (none joined_met_eq1) c.requires.placed.0 (found (goal.at.returns-clause-judges c).After-sweep-2) (rows_again joined_met_eq1) c.eliminate.ensures
+pub returns : goal.returns
+returns c =
+    let joined_met_eq1 = (goal.at.returns c).Joined-met-eq1 in
+    judged_elimination c.requires.judgeable.0 (met joined_met_eq1).0 (met joined_met_eq1).1 (none joined_met_eq1) c.requires.placed.0 (found (goal.at.returns c).After-sweep-2) (rows_again joined_met_eq1) c.eliminate.ensures

@@ -15,5 +15,5 @@ loop-x-preserved c =
     let i = c.wide-in-loop-x.result in
     let e = c.wide-in-loop-x.ensures ∙ ap (at a.places.now) c.wide.ensures in (
       length-set l.marks i true ∙ l.invariant.0,
-      marking_more (at a.places.now) a.numbers.now l.x-index i (omega arith) e l.invariant.1 (stored_flag l.marks i (omega (arith, e, (c.requires.0 l.x-index (omega arith)).1)) l.invariant.0),
+      marking_more (at a.places.now) a.numbers.now l.x-index i (omega arith) e l.invariant.1 (stored_flag l.marks i (omega (arith, e, (c.requires l.x-index (omega arith)).1)) l.invariant.0),
     )

@@ -38,7 +38,6 @@ lower-t-requires c =
     let after_wide_y = (goal.at.lower-t-requires c).After-wide-y in
     let hit = is_hit after_wide_y c.if-y-c.true c.wide-place.ensures c.if-place-end.true in (
       omega (arith, c.requires.small, c.if-place-end.true),
-      c.loop-col.invariant.0.long,
       rw (place_is after_wide_y c.wide-place.ensures) (next_some c.requires (more after_wide_y) c.loop-col.invariant.0 hit),
     )
 
