@@ -1,5 +1,5 @@
 -- The lists of an order: numbers laid at their places, and what stands at one place moved to the last. Rests on `pattern`,
--- `listing`, `register` and `store`.
+-- `listing` and `register`.
 use mathlib.Core.List.{List, [], ◌∷◌, ◌++◌, append_assoc}
 use mathlib.Core.Path.{◌≡◌, sym, ap, ap₂, ◌∙◌}
 use Prim.Native.Nat.{ℕ, suc, ◌+◌, ◌-◌, ◌≤◌, ◌<◌}

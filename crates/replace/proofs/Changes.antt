@@ -1,7 +1,7 @@
 -- What each judgment tells, what is then stored, and that this is the verdict's outcome. Rests on specs/Change.antt, Spikes.antt and
 -- `judge`.
 use mathlib.Core.List.{List}
-use mathlib.Core.Path.{◌≡◌, refl, sym, ap, ap₂, ◌∙◌, subst}
+use mathlib.Core.Path.{◌≡◌, sym, ap, ap₂, ◌∙◌}
 use Prim.Native.Nat.{ℕ}
 use native.Mathlib.Omega.{arith}
 use lib.ListN.{length, take}
@@ -15,7 +15,7 @@ use Rattle.register.specs.Checks.{Fits}
 use Rattle.register.specs.Lent.{Lists, lists, columns}
 use Rattle.register.specs.Order.{Placed}
 use Rattle.store.specs.Store.{joined, exchanged}
-use Rattle.judge.specs.Call.{Call, call, asked}
+use Rattle.judge.specs.Call.{Call, asked}
 use Rattle.judge.specs.Judge.{Judgeable, Tells, Judges}
 use Rattle.judge.specs.declared.Judgment.{Judgment}
 use Rattle.judge.specs.declared.Judgment.TheVariants as judgment
@@ -58,15 +58,6 @@ pub record Eliminates (a : Call) (eta' : List ℕ) (b n : ℕ) : Type 0 where
   pub eta_after : eta' ≡ over eta a.eta
 
 module _ {a : Call} {row_places col_places eta' : List ℕ} where
-  told_singular : Judges a row_places col_places eta' judgment.Singular → NoChoice (Spike (asked a)) (size (asked a)) × (eta' ≡ a.eta)
-  unfolding kind
-  told_singular k = go k.verdict k.right k.tells
-    where
-      go : (v : Verdict) → Judged (asked a) v → Tells a row_places col_places eta' judgment.Singular v → NoChoice (Spike (asked a)) (size (asked a)) × (eta' ≡ a.eta)
-      go Singular j t = (j, t.1)
-      go (Permuted rows cols) j t = absurd (omega (arith, ap kind t.0))
-      go (Elimination rows cols b e) j t = absurd (omega (arith, ap kind t.0))
-
   pub told_permuted : {r : Judgment} → r ≡ judgment.Permuted → Judges a row_places col_places eta' r → Permutes a row_places col_places eta'
   unfolding kind
   told_permuted {r} e k = go k.verdict k.right k.tells
@@ -95,17 +86,6 @@ lists_same a b c d e f = cc (a, b, c, d, e, f)
 
 outcome_same : {r r' : Reply} {l l' : Lists} {e e' : List ℕ} → r ≡ r' → l ≡ l' → e ≡ e' → outcome r l e ≡ outcome r' l' e'
 outcome_same a b c = cc (a, b, c)
-
--- SINGULAR: nothing changes.
-pub singular_answered : {a : Call} {row_places col_places eta' : List ℕ} {r : Judgment} → r ≡ judgment.Singular → Judges a row_places col_places eta' r
-    → Answered a (outcome (said r) a.lists eta')
-singular_answered {a} {row_places} {col_places} {eta'} e k =
-    let t = told_singular (subst (Judges a row_places col_places eta') e k) in
-    (Singular, t.0, outcome_same (ap said e) refl t.1)
-
--- It may be judged with any eta list.
-pub judgeable_with : {a : Call} → Judgeable a → (eta : List ℕ) → Judgeable (call a.size a.lists a.column a.new_rows eta)
-judgeable_with J eta = record { sound = J.sound; column_below = J.column_below; new_rise = J.new_rise }
 
 module _ {a : Call} (J : Judgeable a) where
   abbrev m : ℕ

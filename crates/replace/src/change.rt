@@ -1,9 +1,7 @@
-// The judgment, and then the change of the lists that the verdict asks for. The lists are those of the columns (cs, cr: starts and
-// rows), of the rows (rs, rc: starts and columns) and of the order (or, oc: rows and columns).
-ghost use Rattle.std.specs.Prelude.{◌≡◌, ◌≤◌, length};
+// The judgment, and then the change of the lists that the verdict asks for.
+ghost use Rattle.std.specs.Prelude.{◌≤◌, length};
 ghost use Rattle.pattern.specs.Places.{at};
-ghost use Rattle.listing.specs.Limits.{max_size};
-ghost use Rattle.register.specs.Lent.{lists};
+ghost use Rattle.register.specs.Loan.{held, SameLists};
 ghost use Rattle.register.specs.Order.{Placed};
 ghost use Rattle.judge.specs.Call.{call};
 ghost use Rattle.judge.specs.Judge.{Judgeable};
@@ -15,42 +13,34 @@ use crate::verdicts::{clear, permute};
 use judge::Judgment;
 use judge::judge::judge;
 use listing::wide::wide;
-use register::Register;
+use register::lent::LentMut;
+use register::scratch::Scratch;
 
-// Judges a call that no check refuses, and makes the change. `old` and `places` have the places of the columns and of the rows;
-// `work` is lent for the judgment and the change.
+// Judges a call that no check refuses, and makes the change. The scratch lists have the places of the rows and of the columns.
 pub fn change(
     m: usize,
-    cs: &mut [u16],
-    cr: &mut [u16],
-    rs: &mut [u16],
-    rc: &mut [u16],
-    or: &mut [u16],
-    oc: &mut [u16],
+    lists: &mut LentMut,
     c: usize,
     new: &[u16],
     eta: &mut [u16],
-    work: &mut [u16; Register::MAX_SIZE],
-    old: &mut [u16; Register::MAX_SIZE],
-    places: &mut [u16; Register::MAX_SIZE],
+    scratch: &mut Scratch,
 ) -> Judgment
-    requires judgeable { Judgeable (call m (lists cs.old cr.old rs.old rc.old or.old oc.old) c new.now eta.old) × (m ≤ length eta.old) }
-    requires new_fits { NewFits (call m (lists cs.old cr.old rs.old rc.old or.old oc.old) c new.now eta.old) }
-    requires placed { (length work.old ≡ max_size) × Placed m (at oc.old) old.old × Placed m (at or.old) places.old }
-    ensures { Answered
-        (call m (lists cs.old cr.old rs.old rc.old or.old oc.old)
-        c new.now eta.old)
-        (outcome (said result) (lists cs.new cr.new rs.new rc.new or.new oc.new) eta.new) }
+    requires judgeable { Judgeable (call m (held lists.old) c new.now eta.old) × (m ≤ length eta.old) }
+    requires new_fits { NewFits (call m (held lists.old) c new.now eta.old) }
+    requires placed { Placed m (at lists.old.order_cols.now) scratch.old.col_places
+        × Placed m (at lists.old.order_rows.now) scratch.old.row_places }
+    ensures same_lists { SameLists lists.old lists.new }
+    ensures answered { Answered (call m (held lists.old) c new.now eta.old) (outcome (said result) (held lists.new) eta.new) }
 {
-    let p = wide(old[c]);
-    let judgment = judge(m, cs, cr, rs, rc, or, oc, c, new, p, work, old, places, eta);
+    let p = wide(scratch.col_places[c]);
+    let judgment = judge(m, lists.view(), c, new, p, scratch, eta);
     match judgment {
         Judgment::Singular => {}
         Judgment::Permuted => {
-            permute(m, cs, cr, rs, rc, or, oc, c, new, work, old, places);
+            permute(m, lists, c, new, scratch);
         }
         Judgment::Elimination { bump, eta_count } => {
-            clear(m, cs, cr, rs, rc, or, oc, c, new, p, work, places);
+            clear(m, lists, c, new, p, scratch);
         }
     }
     judgment

@@ -7,7 +7,7 @@ mod change;
 mod check;
 mod verdicts;
 
-ghost use Rattle.register.specs.Lent.{lists};
+ghost use Rattle.register.specs.Loan.{held, SameLists};
 ghost use Rattle.judge.specs.Call.{call};
 ghost use Rattle.replace.specs.Replace.{outcome, Replaces};
 ghost use Rattle.replace.specs.Reply.{reply};
@@ -15,63 +15,28 @@ ghost use Rattle.replace.specs.Reply.{reply};
 use crate::change::change;
 use crate::check::check_call;
 use judge::Judgment;
+use register::lent::LentMut;
+use register::scratch::Scratch;
 use register::{Refusal, Register};
 
 // Replaces one column by the new rows, after the build paper's checks 1 to 8. The three scratch lists are lent to the checks, which
 // leave the places of rows and columns there, and then to the change.
 pub fn replace(
     size: usize,
-    col_starts: &mut [u16],
-    col_rows: &mut [u16],
-    row_starts: &mut [u16],
-    row_cols: &mut [u16],
-    order_rows: &mut [u16],
-    order_cols: &mut [u16],
+    lists: &mut LentMut,
     column: usize,
     new_rows: &[u16],
     eta: &mut [u16],
 ) -> Result<Judgment, Refusal>
-    ensures { Replaces
-        (call size
-        (lists col_starts.old col_rows.old row_starts.old row_cols.old
-        order_rows.old order_cols.old)
-        column new_rows.now eta.old)
-        (outcome (reply result)
-        (lists col_starts.new col_rows.new row_starts.new row_cols.new
-        order_rows.new order_cols.new)
-        eta.new) }
+    ensures same_lists { SameLists lists.old lists.new }
+    ensures replaces { Replaces (call size (held lists.old) column new_rows.now eta.old)
+        (outcome (reply result) (held lists.new) eta.new) }
 {
-    let mut work = [0u16; Register::MAX_SIZE];
-    let mut places = [0u16; Register::MAX_SIZE];
-    let mut old = [0u16; Register::MAX_SIZE];
-    check_call(
-        size,
-        col_starts,
-        col_rows,
-        row_starts,
-        row_cols,
-        order_rows,
-        order_cols,
-        column,
-        new_rows,
-        eta,
-        &mut work,
-        &mut places,
-        &mut old,
-    )?;
-    Ok(change(
-        size,
-        col_starts,
-        col_rows,
-        row_starts,
-        row_cols,
-        order_rows,
-        order_cols,
-        column,
-        new_rows,
-        eta,
-        &mut work,
-        &mut old,
-        &mut places,
-    ))
+    let mut scratch = Scratch {
+        work: [0u16; Register::MAX_SIZE],
+        row_places: [0u16; Register::MAX_SIZE],
+        col_places: [0u16; Register::MAX_SIZE],
+    };
+    check_call(size, lists.view(), column, new_rows, eta, &mut scratch)?;
+    Ok(change(size, lists, column, new_rows, eta, &mut scratch))
 }

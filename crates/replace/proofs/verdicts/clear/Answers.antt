@@ -7,31 +7,28 @@ use Rattle.pattern.specs.Pattern.{Entry}
 use Rattle.pattern.specs.Places.{at, place}
 use Rattle.pattern.specs.Verdict.{c_row}
 use Rattle.pattern.proofs.Finding.{place_of}
-use Rattle.listing.specs.Limits.{max_size}
-use Rattle.register.specs.Lent.{lists, columns}
-use Rattle.register.proofs.Soundness.{columns_good, rows_good}
+use Rattle.register.specs.Lent.{columns}
+use Rattle.register.specs.Loan.{held}
 use Rattle.store.specs.Store.{joined}
-use Rattle.store.proofs.Joins.{joined_rises, joined_short, joined_read}
+use Rattle.store.proofs.Joins.{joined_rises, joined_read}
 use Rattle.judge.specs.Call.{Call, call, asked}
 use Rattle.judge.specs.Judge.{Judgeable}
 use Rattle.replace.proofs.Changes.{cleared_room, cleared_stored}
 use Rattle.replace.proofs.Spikes.{call_row}
 use Rattle.replace.proofs.verdicts.clear.Goals as goal
-use Rattle.replace.proofs.verdicts.clear.Goals.{After-first, After-join-n, After-move_last, After-move_last-2, After-store, After-wide-r, Start}
+use Rattle.replace.proofs.verdicts.clear.Goals.{After-first-rows, Start}
 
 module _ (s : Start) where
   abbrev a : Call
   a =
-      call s.args.m
-      (lists s.args.cs.now s.args.cr.now s.args.rs.now s.args.rc.now s.args.or.now s.args.oc.now)
-      s.args.c s.args.new.now []
+      call s.args.m (held s.args.lists.now) s.args.c s.args.new.now []
 
   J : Judgeable a
   J = s.requires.judgeable.0
 
   -- The place of c.
   p_is : s.args.p ≡ place (at a.lists.order_cols) a.size a.column
-  p_is = s.requires.placed.0
+  p_is = s.requires.placed
 
   p_in : s.args.p < a.size
   p_in = omega (arith, p_is, (place_of J.sound.order.cols a.column J.column_below).0)
@@ -53,18 +50,18 @@ module _ (s : Start) where
         (ap (at a.lists.order_cols) p_is ∙ q.1)
         (J.sound.order.paired s.args.p p_in))
 
-rows_are : (c : After-first) → c.first.result.now ≡ joined (a (goal.at.After-first c).Start).size c.wide-r.result (a (goal.at.After-first c).Start).new_rows
+rows_are : (c : After-first-rows) → c.first-rows.result.now ≡ joined (a (goal.at.After-first-rows c).Start).size c.wide-r.result (a (goal.at.After-first-rows c).Start).new_rows
 rows_are c =
-    c.first.ensures ∙ joined_read _ (J (goal.at.After-first c).Start).new_rise (r_below (goal.at.After-first c).Start c.wide-r.ensures) (J (goal.at.After-first c).Start).sound.sized.1 c.join-n.ensures.0 c.join-n.ensures.1
+    c.first-rows.ensures ∙ joined_read _ (J (goal.at.After-first-rows c).Start).new_rise (r_below (goal.at.After-first-rows c).Start c.wide-r.ensures) (J (goal.at.After-first-rows c).Start).sound.sized.1 c.join-n.ensures.0 c.join-n.ensures.1
 
-pub offset_bounds-or-p : goal.offset_bounds-or-p
-offset_bounds-or-p c =
-    let start = (goal.at.offset_bounds-or-p c).Start in
+pub offset_bounds-lists-p : goal.offset_bounds-lists-p
+offset_bounds-lists-p c =
+    let start = (goal.at.offset_bounds-lists-p c).Start in
     omega (arith, p_in start, (J start).sound.sized)
 
-pub bounds-or-p : goal.bounds-or-p
-bounds-or-p c =
-    let start = (goal.at.bounds-or-p c).Start in
+pub bounds-lists-p : goal.bounds-lists-p
+bounds-lists-p c =
+    let start = (goal.at.bounds-lists-p c).Start in
     omega (arith, p_in start, (J start).sound.long.order_rows_fit)
 
 pub join-n-requires : goal.join-n-requires
@@ -72,36 +69,32 @@ join-n-requires c =
     let start = (goal.at.join-n-requires c).Start in (
       record { below = λ i h. omega (arith, (J start).new_rise.below i h, (J start).sound.sized); rises = (J start).new_rise.rises },
       omega (arith, r_below start c.wide-r.ensures, (J start).sound.sized),
-      omega (arith, c.requires.placed.2),
+      omega arith,
     )
 
-pub first-requires : goal.first-requires
-first-requires c =
-    omega (arith, c.join-n.ensures.0, c.join-n.auto.list, joined_short max_size c.wide-r.result (a (goal.at.first-requires c).Start).new_rows, c.requires.placed.2)
-
-pub store-requires : goal.store-requires
-store-requires c =
-    let start = (goal.at.store-requires c).Start in
-    let after_first = (goal.at.store-requires c).After-first in
-    let S = (J start).sound in
-    let R = cleared_room (J start) (r_is start c.wide-r.ensures) (rows_are after_first) c.requires.judgeable.1 c.requires.choice_left in
+pub exchange-requires : goal.exchange-requires
+exchange-requires c =
+    let start = (goal.at.exchange-requires c).Start in
+    let after_first = (goal.at.exchange-requires c).After-first-rows in
     record {
-      good = (columns_good S, rows_good S, S.agree, (J start).column_below, rw (rows_are after_first) (joined_rises (a start).size c.wide-r.result (a start).new_rows));
-      entry = (λ h. r_paired start c.wide-r.ensures, c.requires.placed.1);
-      room = (R.few, R.in_columns, R.in_rows);
+      sound = ((J start).sound, (J start).column_below, rw (rows_are after_first) (joined_rises (a start).size c.wide-r.result (a start).new_rows));
+      entry = λ h. r_paired start c.wide-r.ensures;
+      room = cleared_room (J start) (r_is start c.wide-r.ensures) (rows_are after_first) c.requires.judgeable.1 c.requires.choice_left;
     }
 
 pub move_last-requires : goal.move_last-requires
 move_last-requires c =
     let start = (goal.at.move_last-requires c).Start in
-    (p_in start, (J start).sound.long.order_rows_fit)
+    (p_in start, rw c.exchange.ensures.order_kept.0 (J start).sound.long.order_rows_fit)
 
 pub move_last-requires-2 : goal.move_last-requires-2
 move_last-requires-2 c =
     let start = (goal.at.move_last-requires-2 c).Start in
-    (p_in start, (J start).sound.long.order_cols_fit)
+    (p_in start, rw c.exchange.ensures.order_kept.1 (J start).sound.long.order_cols_fit)
 
-pub returns : goal.returns
-returns c =
-    let start = (goal.at.returns c).Start in
-    cleared_stored (J start) (r_is start c.wide-r.ensures) (rows_are (goal.at.returns c).After-first) c.args.p c.store.ensures.columns_held c.store.ensures.rows_held c.move_last.ensures c.move_last-2.ensures
+pub returns-clause-clears : goal.returns-clause-clears
+returns-clause-clears c =
+    let start = (goal.at.returns-clause-clears c).Start in
+    let E = c.exchange.ensures in
+    cleared_stored (J start) (r_is start c.wide-r.ensures) (rows_are (goal.at.returns-clause-clears c).After-first-rows) c.args.p
+    E.columns_held E.rows_held (rw E.order_kept.0 at c.move_last.ensures) (rw E.order_kept.1 at c.move_last-2.ensures)
