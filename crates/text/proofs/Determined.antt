@@ -1,31 +1,33 @@
 -- No two outcomes satisfy the contract of a function for the crates above, as its source states it. Rests on specs/Heard.antt,
--- specs/Puts.antt, Speaking.antt and `listing`.
+-- specs/Prints.antt, Speaking.antt and `listing`.
 use mathlib.Core.List.{List}
 use mathlib.Core.Path.{◌≡◌, refl, sym, ap, ◌∙◌}
 use Prim.Native.Nat.{ℕ}
 use lib.ListN.{length}
 use Rattle.pattern.specs.Places.{at}
 use Rattle.std.specs.Prelude.{Option, Some, None}
-use Rattle.listing.specs.Contract.{Determined}
+use Rattle.listing.specs.Contract.{Determined, DeterminedAs}
 use Rattle.listing.proofs.Determined.{same}
 use Rattle.text.specs.Heard.{Hears}
+use Rattle.text.specs.Prints.{Prints}
 use Rattle.text.specs.Puts.{Puts}
 use Rattle.text.specs.declared.lines.Heard.{Heard}
+use Rattle.text.specs.declared.output.Output.{Output}
 use Rattle.text.proofs.Speaking.{speaks_one}
 use Rattle.text.proofs.lines.hear.Kinds as hear-kinds
 use Rattle.text.proofs.lines.hear.Reads as hear
 use Rattle.text.proofs.lines.keep.Kinds as keep-kinds
 use Rattle.text.proofs.lines.keep.Reads as keep
-use Rattle.text.proofs.write.put_word.Kinds as put-word-kinds
-use Rattle.text.proofs.write.put_word.Reads as put_word
-use Rattle.text.proofs.write.put_number.Kinds as put-number-kinds
-use Rattle.text.proofs.write.put_number.Reads as put-number
-use Rattle.text.proofs.write.put_byte.Kinds as put-byte-kinds
-use Rattle.text.proofs.write.put_byte.Reads as put_byte
-use Rattle.text.proofs.write.put_spaced.Kinds as put-spaced-kinds
-use Rattle.text.proofs.write.put_spaced.Reads as put-spaced
-use Rattle.text.proofs.write.put_numbers.Kinds as put-numbers-kinds
-use Rattle.text.proofs.write.put_numbers.Reads as put-numbers
+use Rattle.text.proofs.output.Output.word.Kinds as word-kinds
+use Rattle.text.proofs.output.Output.word.Reads as word
+use Rattle.text.proofs.output.Output.byte.Kinds as byte-kinds
+use Rattle.text.proofs.output.Output.byte.Reads as byte
+use Rattle.text.proofs.output.Output.number.Kinds as number-kinds
+use Rattle.text.proofs.output.Output.number.Reads as number
+use Rattle.text.proofs.output.Output.spaced.Kinds as spaced-kinds
+use Rattle.text.proofs.output.Output.spaced.Reads as spaced
+use Rattle.text.proofs.output.Output.numbers.Kinds as numbers-kinds
+use Rattle.text.proofs.output.Output.numbers.Reads as numbers
 
 -- ---- Lines
 
@@ -45,22 +47,29 @@ hear_determined κs a h x y ws vs p q = (hears_one _ _ x y p q, refl)
 pub keep_determined : Determined keep-kinds.ps keep-kinds.r keep.Pre keep.Post
 keep_determined κs a h x y ws vs p q = (refl, λ i. (tt, (tt, (same (p h.2.0 h.2.1) (q h.2.0 h.2.1) i, tt))))
 
--- ---- Bytes put at a place
+-- ---- Bytes put at a place, and printed
 
 pub puts_one : {place next next' : ℕ} {l old new new' : List ℕ} → Puts place l old next new → Puts place l old next' new' → (next ≡ next') × (new ≡ new')
 puts_one p q = (same p.after q.after, same p.stand q.stand)
 
-pub put_word_determined : Determined put-word-kinds.ps put-word-kinds.r put_word.Pre put_word.Post
-put_word_determined κs a h x y ws vs p q = let o = puts_one p q in (o.0, λ i. (tt, (o.1 i, (tt, tt))))
+-- What is seen of an output: how much has been printed, and the list.
+abbrev pub printed : Output → ℕ × List ℕ
+printed out = (out.len, out.bytes.now)
 
-pub put_number_determined : Determined put-number-kinds.ps put-number-kinds.r put-number.Pre put-number.Post
-put_number_determined κs a h x y ws vs p q = let o = puts_one p q in (o.0, λ i. (tt, (o.1 i, (tt, tt))))
+pub prints_one : {text : List ℕ} {old new new' : Output} → Prints text old new → Prints text old new' → printed new ≡ printed new'
+prints_one p q = let o = puts_one p.puts q.puts in λ i. (o.0 i, o.1 i)
 
-pub put_byte_determined : Determined put-byte-kinds.ps put-byte-kinds.r put_byte.Pre put_byte.Post
-put_byte_determined κs a h x y ws vs p q = let o = puts_one p q in (o.0, λ i. (tt, (o.1 i, (tt, tt))))
+pub word_determined : DeterminedAs word-kinds.ps word-kinds.r word.Pre word.Post (λ κs x. x) (λ κs a ws. printed ws.0)
+word_determined κs a h x y ws vs p q = (refl, prints_one p q)
 
-pub put_spaced_determined : Determined put-spaced-kinds.ps put-spaced-kinds.r put-spaced.Pre put-spaced.Post
-put_spaced_determined κs a h x y ws vs p q = let o = puts_one p q in (o.0, λ i. (tt, (o.1 i, (tt, tt))))
+pub byte_determined : DeterminedAs byte-kinds.ps byte-kinds.r byte.Pre byte.Post (λ κs x. x) (λ κs a ws. printed ws.0)
+byte_determined κs a h x y ws vs p q = (refl, prints_one p q)
 
-pub put_numbers_determined : Determined put-numbers-kinds.ps put-numbers-kinds.r put-numbers.Pre put-numbers.Post
-put_numbers_determined κs a h x y ws vs p q = let o = puts_one p q in (o.0, λ i. (tt, (o.1 i, (tt, tt))))
+pub number_determined : DeterminedAs number-kinds.ps number-kinds.r number.Pre number.Post (λ κs x. x) (λ κs a ws. printed ws.0)
+number_determined κs a h x y ws vs p q = (refl, prints_one p q)
+
+pub spaced_determined : DeterminedAs spaced-kinds.ps spaced-kinds.r spaced.Pre spaced.Post (λ κs x. x) (λ κs a ws. printed ws.0)
+spaced_determined κs a h x y ws vs p q = (refl, prints_one p q)
+
+pub numbers_determined : DeterminedAs numbers-kinds.ps numbers-kinds.r numbers.Pre numbers.Post (λ κs x. x) (λ κs a ws. printed ws.0)
+numbers_determined κs a h x y ws vs p q = (refl, prints_one p q)

@@ -11,9 +11,9 @@ pub mod Scans
 pub mod Hearing
 pub mod Keeping
 pub mod DigitsPut
-pub mod Parts
 pub mod HeardNumbers
 pub mod Kept
 pub mod SeriesLaws
 pub mod Progress
+pub mod Printing
 pub mod Determined

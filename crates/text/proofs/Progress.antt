@@ -1,12 +1,12 @@
--- How far a series has been measured or put: nothing yet, one thing more, all. Rests on SeriesLaws.antt and `listing`.
-use mathlib.Core.List.{List, [], ◌++◌, append-nil, append_assoc}
+-- How far a series has been measured or put: one thing more, all. Rests on SeriesLaws.antt and `listing`.
+use mathlib.Core.List.{List, ◌++◌, append-nil, append_assoc}
 use mathlib.Core.Path.{◌≡◌, refl, sym, ap, ◌∙◌, subst}
 use Prim.Native.Nat.{ℕ, ◌+◌, ◌≤◌, ◌<◌}
 use native.Mathlib.Omega.{arith}
 use lib.ListN.{length, get_or, take, length-append}
 use lib.Seq.{length-take-le}
 use Rattle.listing.specs.Held.{over, put}
-use Rattle.listing.proofs.Puts.{put_none, put_over, put_is_over, put_length}
+use Rattle.listing.proofs.Puts.{put_over, put_is_over, put_length}
 use Rattle.text.specs.Puts.{Puts}
 use Rattle.text.specs.Series.{series}
 use Rattle.text.proofs.SeriesLaws.{left, left_more, left_all}
@@ -17,25 +17,21 @@ pub record Gone {A : Type 0} (one : ℕ → A → List ℕ) (after : ℕ → A �
   pub parts : bytes ++ left one after L k s ≡ series one after 0 L
   pub so : F bytes
 
-module _ {A : Type 0} {one : ℕ → A → List ℕ} {after : ℕ → A → ℕ} {L : List A} where
-  pub gone_none : {F : List ℕ → Type 0} → F [] → Gone one after L 0 0 F
-  gone_none f = record { bytes = []; parts = refl; so = f }
+module _ {A : Type 0} {one : ℕ → A → List ℕ} {after : ℕ → A → ℕ} {L : List A} {k s : ℕ} {F : List ℕ → Type 0} (g : Gone one after L k s F) where
+  pub gone_more : {G : List ℕ → Type 0} (d : A) → k < length L → (F g.bytes → G (g.bytes ++ one s (get_or L k d)))
+      → Gone one after L (k + 1) (after s (get_or L k d)) G
+  gone_more d h f =
+      record {
+        bytes = g.bytes ++ one s (get_or L k d);
+        parts = append_assoc g.bytes (one s (get_or L k d)) _ ∙ ap (λ (l : List ℕ). g.bytes ++ l) (sym (left_more one after L d k s h)) ∙ g.parts;
+        so = f g.so;
+      }
 
-  module _ {k s : ℕ} {F : List ℕ → Type 0} (g : Gone one after L k s F) where
-    pub gone_more : {G : List ℕ → Type 0} (d : A) → k < length L → (F g.bytes → G (g.bytes ++ one s (get_or L k d)))
-        → Gone one after L (k + 1) (after s (get_or L k d)) G
-    gone_more d h f =
-        record {
-          bytes = g.bytes ++ one s (get_or L k d);
-          parts = append_assoc g.bytes (one s (get_or L k d)) _ ∙ ap (λ (l : List ℕ). g.bytes ++ l) (sym (left_more one after L d k s h)) ∙ g.parts;
-          so = f g.so;
-        }
+  pub gone_length : length g.bytes ≤ length (series one after 0 L)
+  gone_length = omega (arith, ap length g.parts, length-append g.bytes (left one after L k s))
 
-    pub gone_length : length g.bytes ≤ length (series one after 0 L)
-    gone_length = omega (arith, ap length g.parts, length-append g.bytes (left one after L k s))
-
-    pub gone_all : length L ≤ k → F (series one after 0 L)
-    gone_all h = subst F (sym (append-nil g.bytes) ∙ ap (λ (l : List ℕ). g.bytes ++ l) (sym (left_all one after L k s h)) ∙ g.parts) g.so
+  pub gone_all : length L ≤ k → F (series one after 0 L)
+  gone_all h = subst F (sym (append-nil g.bytes) ∙ ap (λ (l : List ℕ). g.bytes ++ l) (sym (left_all one after L k s h)) ∙ g.parts) g.so
 
 -- ---- Measured
 
@@ -66,9 +62,6 @@ puts_length {k} {l} {old} h p = ap length p.stand ∙ put_length k l old h
 
 abbrev pub Putting : {A : Type 0} (one : ℕ → A → List ℕ) (after : ℕ → A → ℕ) (L : List A) (k s place here : ℕ) (old new : List ℕ) → Type 0
 Putting one after L k s place here old new = Gone one after L k s (λ l. Puts place l old here new)
-
-pub putting_none : {A : Type 0} {one : ℕ → A → List ℕ} {after : ℕ → A → ℕ} {L : List A} {place : ℕ} {old : List ℕ} → Putting one after L 0 0 place place old old
-putting_none {place = place} {old = old} = gone_none (record { after = omega arith; stand = sym (put_none place old) })
 
 module _ {A : Type 0} {one : ℕ → A → List ℕ} {after : ℕ → A → ℕ} {L : List A} {k s place here : ℕ} {old new : List ℕ} (p : Putting one after L k s place here old new) (d : A)
     (h : k < length L) (room : place + length (series one after 0 L) ≤ length old) where

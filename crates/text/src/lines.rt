@@ -109,7 +109,8 @@ fn store(at: Stand, numbers: &mut [u16])
     }
 }
 
-// Stores the numbers of a line that says some, at the head of a list.
+// Stores the numbers of a line that says some, at the head of a list. It goes over the line as `hear` does, which must not write: one
+// function for both would be handed a closure that does nothing in `hear`.
 pub fn keep(line: &[u8], word: &[u8], numbers: &mut [u16])
     requires { (length line.now ≤ max_line) × (max_numbers ≤ length numbers.old) × SaysSome word.now line.now }
     ensures { (l : List ℕ) → Speaks line.now word.now l → numbers.new ≡ over l numbers.old }

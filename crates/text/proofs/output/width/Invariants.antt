@@ -3,7 +3,7 @@ use mathlib.Core.Path.{◌≡◌}
 use Prim.Native.Nat.{◌+◌}
 use lib.ListN.{length}
 use Rattle.text.specs.Text.{decimal}
-use Rattle.text.proofs.write.width.Given as goal
+use Rattle.text.proofs.output.width.Given as goal
 
 abbrev pub invariant-loop-rest : goal.invariant-loop-rest
 invariant-loop-rest l = l.k + length (decimal l.rest) ≡ 1 + length (decimal l.n)

@@ -3,7 +3,7 @@ use mathlib.Core.Path.{ap}
 use native.Mathlib.Omega.{arith}
 use lib.ListN.{length}
 use Rattle.text.proofs.Decimals.{decimal_digit, decimal_longer, decimal_some, decimal_twenty}
-use Rattle.text.proofs.write.width.Goals as goal
+use Rattle.text.proofs.output.width.Goals as goal
 
 pub overflow_add-k : goal.overflow_add-k
 overflow_add-k c =
