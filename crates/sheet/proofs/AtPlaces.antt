@@ -7,17 +7,15 @@ use native.Mathlib.Numerals.{add-one}
 use native.Mathlib.Omega.{arith}
 use lib.ListN.{length, get_or, take}
 use Rattle.std.proofs.lemmas.List.{get_or-take, length-take-le}
-use Rattle.pattern.specs.Ladder.{fails, holds}
 use Rattle.pattern.specs.Order.{pairs}
 use Rattle.pattern.specs.Pattern.{column}
 use Rattle.pattern.specs.Places.{at}
 use Rattle.pattern.specs.Rising.{Rising}
 use Rattle.pattern.proofs.Each.{length_each}
 use Rattle.pattern.proofs.Pairs.{pairs_length, pair_is}
-use Rattle.listing.specs.Limits.{Sized, max_size}
-use Rattle.listing.specs.Listing.{between, part, parts, Good}
-use Rattle.listing.specs.Look.{Spans, Looked}
-use Rattle.listing.proofs.Listings.{good_columns, good_within, good_column}
+use Rattle.listing.specs.Limits.{max_size}
+use Rattle.listing.specs.Listing.{part, parts, Good}
+use Rattle.listing.proofs.Listings.{good_columns, good_column}
 use Rattle.listing.proofs.Rises.{rising_few}
 
 -- ---- A row
@@ -45,21 +43,17 @@ module _ {m : ℕ} {cs cr : List ℕ} (G : Good m cs cr) where
       let r = (good_columns G).rise c h in
       record { below = λ i u. omega (arith, r.below i u, G.small); rises = r.rises }
 
-  -- What a look hands over.
+  -- What part c is.
   pub record ColumnSeen (c : ℕ) (rows : List ℕ) : Type 0 where
     pub is_column : rows ≡ column (parts m cs cr) c
     pub rises : Rising max_size rows
     pub few : length rows ≤ max_size
 
-  pub column_seen : {rows : List ℕ} (c : ℕ) → c < m → Sized m → Looked m c cs cr rows → ColumnSeen c rows
-  column_seen {rows} c h S L = record { is_column = is; rises = up; few = rising_few up }
+  pub column_seen : {rows : List ℕ} (c : ℕ) → c < m → rows ≡ part cs cr c → ColumnSeen c rows
+  column_seen {rows} c h e = record { is_column = is; rises = up; few = rising_few up }
     where
-      go : {from to : ℕ} → Spans m c cs cr (from, to) → between from to cr ≡ part cs cr c
-      go (fails n e) = absurd (n (record { sized = S; below = h; starts_long = G.room.starts_long; within = good_within G c h }))
-      go (holds p e) = ap (λ (s : ℕ × ℕ). between s.0 s.1 cr) e
-
       is : rows ≡ column (parts m cs cr) c
-      is = good_column G c h (L.taken ∙ go L.spans)
+      is = good_column G c h e
 
       up : Rising max_size rows
       up = rw is (column_rises c h)

@@ -5,7 +5,7 @@ pub mod Numbers
 pub mod Groups
 pub mod AtPlaces
 pub mod Sizes
-pub mod SheetPuts
+pub mod Sinks
 pub mod Writing
 pub mod Tests
 pub mod Handed

@@ -20,7 +20,7 @@ use Rattle.text.proofs.SeriesLaws.{series_few}
 use Rattle.register.specs.Lent.{Lists, SoundLists}
 use Rattle.register.proofs.Soundness.{columns_good}
 use Rattle.sheet.specs.Number.{groups}
-use Rattle.sheet.specs.Sheet.{Record, record_of, past, grown, counted, row_bytes, rows_bytes, column_bytes, columns_bytes, pair_bytes, order_bytes, sheet}
+use Rattle.sheet.specs.Sheet.{Record, record_in, record_of, past, grown, counted, row_bytes, rows_bytes, column_bytes, columns_bytes, pair_bytes, order_bytes, sheet}
 use Rattle.sheet.proofs.AtPlaces.{parts_length, column_rises}
 use Rattle.sheet.proofs.Numbers.{groups_few, groups_short}
 
@@ -85,6 +85,10 @@ pub sheet_length : (x : Record) → length (sheet x) ≡ length (groups x.size) 
 sheet_length x =
     omega
     (arith, length-append (groups x.size) (columns_bytes x.columns ++ order_bytes x.order), length-append (columns_bytes x.columns) (order_bytes x.order))
+
+-- No sheet is longer, whatever its order says.
+pub sheet_few : {m : ℕ} {cs cr : List ℕ} (G : Good m cs cr) (or oc : List ℕ) → length (sheet (record_in m cs cr or oc)) ≤ 32003
+sheet_few {m} {cs} {cr} G or oc = omega (arith, sheet_length (record_in m cs cr or oc), groups_few m, columns_few G, order_few m or oc G.small)
 
 -- No sheet of a sound register is longer.
 pub sheet_longest : {m : ℕ} {l : Lists} → SoundLists m l → length (sheet (record_of m l)) ≤ 30002

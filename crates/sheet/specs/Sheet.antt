@@ -4,6 +4,7 @@ use Rattle.pattern.specs.Flat.{flat}
 use Rattle.pattern.specs.Order.{Sound, pairs}
 use Rattle.pattern.specs.Pattern.{Entry}
 use Rattle.pattern.specs.Places.{at}
+use Rattle.listing.specs.declared.formed.Formed.{Formed}
 use Rattle.listing.specs.Listing.{parts}
 use Rattle.text.specs.Series.{series}
 use Rattle.register.specs.Takes.{holding}
@@ -28,6 +29,10 @@ seconds = map (λ (p : ℕ × ℕ). p.1)
 -- What a register of size `m` says in a column listing and the two lists of its order.
 abbrev pub record_in : (m : ℕ) (col_starts col_rows order_rows order_cols : List ℕ) → Record
 record_in m cs cr or oc = record { size = m; columns = parts m cs cr; order = pairs m or oc }
+
+-- The same of a column listing that may be read.
+abbrev pub record_with : Formed → (order_rows order_cols : List ℕ) → Record
+record_with columns or oc = record_in columns.size columns.listed.starts.now columns.listed.entries.now or oc
 
 -- The same of its six lists; the row listing says nothing more.
 abbrev pub record_of : ℕ → Lists → Record

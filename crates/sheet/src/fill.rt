@@ -4,14 +4,17 @@ ghost use Rattle.pattern.specs.Flat.{flat};
 ghost use Rattle.listing.specs.Held.{over, put, Held};
 ghost use Rattle.listing.specs.Limits.{max_size};
 ghost use Rattle.register.specs.Takes.{Takes};
-ghost use Rattle.register.specs.Lent.{lists};
+ghost use Rattle.register.specs.Loan.{held, SameLists};
 ghost use Rattle.sheet.specs.Number.{got};
 ghost use Rattle.sheet.specs.Passes.{thing, Got, blank};
 ghost use Rattle.sheet.specs.Reading.{rows_at, columns_at, order_at, record_read};
 ghost use Rattle.sheet.specs.Sheet.{firsts, seconds, total, held_record};
 
 use crate::items::{known, known_pair};
+use listing::formed::Formed;
+use listing::listing::Listed;
 use listing::turn::turn;
+use register::lent::LentMut;
 
 // The n rows of a column go to place k of the entries on; replies the place after them in the bytes.
 fn fill_rows(bytes: &[u8], place: usize, n: u32, entries: &mut [u16], k: usize) -> usize
@@ -66,24 +69,25 @@ fn fill_order(bytes: &[u8], place: usize, m: u32, rows: &mut [u16], cols: &mut [
 }
 
 // The whole register of a sheet without faults.
-pub fn fill(
-    bytes: &[u8],
-    cs: &mut [u16],
-    cr: &mut [u16],
-    rs: &mut [u16],
-    rc: &mut [u16],
-    or: &mut [u16],
-    oc: &mut [u16],
-)
+pub fn fill(bytes: &[u8], lists: &mut LentMut)
     requires { Got blank (record_read bytes.now)
-        × Takes (thing blank (record_read bytes.now)).size (total (thing blank (record_read bytes.now)))
-        (lists cs.old cr.old rs.old rc.old or.old oc.old) }
-    ensures { lists cs.new cr.new rs.new rc.new or.new oc.new
-        ≡ held_record (thing blank (record_read bytes.now))
-        (lists cs.old cr.old rs.old rc.old or.old oc.old) }
+        × Takes (thing blank (record_read bytes.now)).size (total (thing blank (record_read bytes.now))) (held lists.old) }
+    ensures same { SameLists lists.old lists.new }
+    ensures filled { held lists.new ≡ held_record (thing blank (record_read bytes.now)) (held lists.old) }
 {
     let m = known(bytes, 0);
-    let order = fill_columns(bytes, m.next, m.value, cs, cr);
-    fill_order(bytes, order, m.value, or, oc);
-    turn(m.value as usize, cs, cr, rs, rc);
+    let order = fill_columns(bytes, m.next, m.value, lists.col_starts, lists.col_rows);
+    fill_order(bytes, order, m.value, lists.order_rows, lists.order_cols);
+    let col_starts = &mut *lists.col_starts;
+    let col_rows = &mut *lists.col_rows;
+    let row_starts = &mut *lists.row_starts;
+    let row_cols = &mut *lists.row_cols;
+    let columns = Formed {
+        size: m.value as usize,
+        listed: Listed {
+            starts: col_starts,
+            entries: col_rows,
+        },
+    };
+    turn(columns, row_starts, row_cols);
 }

@@ -4,23 +4,24 @@
 
 mod fill;
 mod items;
-mod measure;
 mod number;
 mod put;
 mod scan;
+mod sink;
 mod sound;
 
 ghost use Rattle.std.specs.Prelude.{◌≡◌, ◌<◌};
-ghost use Rattle.register.specs.Lent.{lists};
+ghost use Rattle.register.specs.Loan.{seen, held, SameLists};
 ghost use Rattle.sheet.specs.Reads.{Examines, read_in, Reads};
 ghost use Rattle.sheet.specs.Reply.{written, filled, finding};
 ghost use Rattle.sheet.specs.Writes.{written_out, Writes};
 
 use crate::fill::fill;
-use crate::measure::measure;
-use crate::put::put_sheet;
+use crate::put::{measure, put_sheet};
 use crate::scan::scan;
 use crate::sound::sound;
+use listing::formed::Formed;
+use register::lent::{Lent, LentMut};
 use register::room::takes;
 use register::{Refusal, Register};
 
@@ -52,32 +53,21 @@ pub struct Examined {
 const LONGEST: usize = 30002;
 
 // Writes the sheet of a register to the head of the bytes, after checks 1 to 5 and 8; replies the byte count.
-pub fn write_sheet(
-    size: usize,
-    col_starts: &[u16],
-    col_rows: &[u16],
-    row_starts: &[u16],
-    row_cols: &[u16],
-    order_rows: &[u16],
-    order_cols: &[u16],
-    bytes: &mut [u8],
-) -> Result<usize, Refusal>
-    ensures { Writes size
-        (lists col_starts.now col_rows.now row_starts.now row_cols.now
-        order_rows.now order_cols.now)
-        bytes.old
-        (written_out (written result) bytes.new) }
+pub fn write_sheet(size: usize, lists: Lent, bytes: &mut [u8]) -> Result<usize, Refusal>
+    ensures { Writes size (seen lists.entry) bytes.old (written_out (written result) bytes.new) }
 {
-    (Register { size }).check(
-        col_starts, col_rows, row_starts, row_cols, order_rows, order_cols,
-    )?;
+    (Register { size }).check(lists)?;
+    let columns = Formed {
+        size,
+        listed: lists.columns,
+    };
     if bytes.len() < LONGEST {
-        let count = measure(size, col_starts, col_rows, order_rows, order_cols);
+        let count = measure(columns, lists.order_rows, lists.order_cols);
         if bytes.len() < count {
             return Err(Refusal::NoRoom);
         }
     }
-    Ok(put_sheet(size, col_starts, col_rows, order_rows, order_cols, bytes))
+    Ok(put_sheet(columns, lists.order_rows, lists.order_cols, bytes))
 }
 
 // What the bytes decide. Nothing is written.
@@ -93,34 +83,17 @@ pub fn examine(bytes: &[u8]) -> Result<Examined, Fault>
 }
 
 // Reads a sheet into the lists, which change only where it is accepted; replies the size of the register that they then hold.
-pub fn read_sheet(
-    bytes: &[u8],
-    col_starts: &mut [u16],
-    col_rows: &mut [u16],
-    row_starts: &mut [u16],
-    row_cols: &mut [u16],
-    order_rows: &mut [u16],
-    order_cols: &mut [u16],
-) -> Result<usize, Refusal>
-    ensures { Reads
-        (lists col_starts.old col_rows.old row_starts.old row_cols.old
-        order_rows.old order_cols.old)
-        bytes.now
-        (read_in (filled result)
-        (lists col_starts.new col_rows.new row_starts.new row_cols.new
-        order_rows.new order_cols.new)) }
+pub fn read_sheet(bytes: &[u8], lists: &mut LentMut) -> Result<usize, Refusal>
+    ensures same { SameLists lists.old lists.new }
+    ensures reads { Reads (held lists.old) bytes.now (read_in (filled result) (held lists.new)) }
 {
     let Examined { size, total, sound } = examine(bytes)?;
-    if !takes(
-        size, total, col_starts, col_rows, row_starts, row_cols, order_rows, order_cols,
-    ) {
+    if !takes(size, total, lists.view()) {
         return Err(Refusal::ShortList);
     }
     if !sound {
         return Err(Refusal::OrderUnsound);
     }
-    fill(
-        bytes, col_starts, col_rows, row_starts, row_cols, order_rows, order_cols,
-    );
+    fill(bytes, lists);
     Ok(size)
 }

@@ -1,75 +1,82 @@
-// The sheet of a register put into bytes that have room for it.
-ghost use Rattle.std.specs.Prelude.{◌≡◌, ◌+◌, ◌≤◌, ◌<◌, length};
-ghost use Rattle.pattern.specs.Places.{at};
+// The numbers of a sheet, one by one: put into bytes that have room for them, or only counted. Where the room may be short, it
+// must be known before the first byte is put.
+ghost use Rattle.std.specs.Prelude.{◌≡◌, ◌≤◌, length};
 ghost use Rattle.pattern.specs.Rising.{Rising};
 ghost use Rattle.pattern.specs.Order.{pairs};
 ghost use Rattle.listing.specs.Held.{over};
-ghost use Rattle.listing.specs.Limits.{Sized, max_size};
-ghost use Rattle.listing.specs.Listing.{parts, Good};
-ghost use Rattle.text.specs.Puts.{Puts};
-ghost use Rattle.sheet.specs.Sheet.{record_in, rows_bytes, columns_bytes, order_bytes, sheet};
+ghost use Rattle.listing.specs.Limits.{max_size};
+ghost use Rattle.listing.specs.Formed.{parts_of};
+ghost use Rattle.sheet.specs.Sheet.{record_with, rows_bytes, columns_bytes, order_bytes, sheet};
 
-use crate::number::put;
-use register::Register;
+use crate::sink::{Bytes, Count, Sink};
+use listing::formed::Formed;
 
-// The rows of one column, without their count; like the others it replies the place after what it puts.
-fn put_rows(rows: &[u16], bytes: &mut [u8], place: usize) -> usize
-    requires { Rising max_size rows.now × (place + length (rows_bytes rows.now) ≤ length bytes.old) }
-    ensures { Puts place (rows_bytes rows.now) bytes.old result bytes.new }
+// The rows of one column, without their count.
+fn put_rows<S: Sink>(rows: &[u16], sink: &mut S)
+    requires { Rising max_size rows.now × S.room sink.old (length (rows_bytes rows.now)) }
+    ensures { S.after sink.old (rows_bytes rows.now) sink.new }
 {
-    let mut at = place;
     let mut least = 0;
     for row in rows {
         let r = *row as u32;
-        at = put(r - least, bytes, at);
+        sink.put(r - least);
         least = r + 1;
     }
-    at
 }
 
 // All columns.
-fn put_columns(size: usize, cs: &[u16], cr: &[u16], bytes: &mut [u8], place: usize) -> usize
-    requires { Sized size × Good size cs.now cr.now × (place + length (columns_bytes (parts size cs.now cr.now)) ≤ length bytes.old) }
-    ensures { Puts place (columns_bytes (parts size cs.now cr.now)) bytes.old result bytes.new }
+fn put_columns<S: Sink>(columns: Formed, sink: &mut S)
+    requires { S.room sink.old (length (columns_bytes (parts_of columns))) }
+    ensures { S.after sink.old (columns_bytes (parts_of columns.entry)) sink.new }
 {
-    let mut at = place;
-    for c in 0..size {
-        let rows = (Register { size }).look(cs, cr, c);
-        at = put(rows.len() as u32, bytes, at);
-        at = put_rows(rows, bytes, at);
+    for c in 0..columns.size {
+        let rows = columns.part(c);
+        sink.put(rows.len() as u32);
+        put_rows(rows, sink);
     }
-    at
 }
 
 // The order.
-fn put_order(size: usize, or: &[u16], oc: &[u16], bytes: &mut [u8], place: usize) -> usize
-    requires { (size ≤ max_size) × (size ≤ length or.now) × (size ≤ length oc.now)
-        × (place + length (order_bytes (pairs size or.now oc.now)) ≤ length bytes.old) }
-    ensures { Puts place (order_bytes (pairs size or.now oc.now)) bytes.old result bytes.new }
+fn put_order<S: Sink>(size: usize, order_rows: &[u16], order_cols: &[u16], sink: &mut S)
+    requires { (size ≤ max_size) × (size ≤ length order_rows.now) × (size ≤ length order_cols.now)
+        × S.room sink.old (length (order_bytes (pairs size order_rows.now order_cols.now))) }
+    ensures { S.after sink.old (order_bytes (pairs size order_rows.now order_cols.now)) sink.new }
 {
-    let mut at = place;
-    for (row, col) in or[..size].iter().zip(&oc[..size]) {
-        at = put(*row as u32, bytes, at);
-        at = put(*col as u32, bytes, at);
+    for (row, col) in order_rows[..size].iter().zip(&order_cols[..size]) {
+        sink.put(*row as u32);
+        sink.put(*col as u32);
     }
-    at
+}
+
+// The whole sheet.
+fn put_record<S: Sink>(columns: Formed, order_rows: &[u16], order_cols: &[u16], sink: &mut S)
+    requires { (columns.size ≤ length order_rows.now) × (columns.size ≤ length order_cols.now)
+        × S.room sink.old (length (sheet (record_with columns order_rows.now order_cols.now))) }
+    ensures { S.after sink.old (sheet (record_with columns.entry order_rows.now order_cols.now)) sink.new }
+{
+    sink.put(columns.size as u32);
+    put_columns(columns, sink);
+    put_order(columns.size, order_rows, order_cols, sink);
+}
+
+// How many bytes the whole sheet has.
+pub fn measure(columns: Formed, order_rows: &[u16], order_cols: &[u16]) -> usize
+    requires { (columns.size ≤ length order_rows.now) × (columns.size ≤ length order_cols.now) }
+    ensures { result ≡ length (sheet (record_with columns.entry order_rows.now order_cols.now)) }
+{
+    let mut count = Count { bytes: 0 };
+    put_record(columns, order_rows, order_cols, &mut count);
+    count.bytes
 }
 
 // The whole sheet, at the head of the bytes; replies how many it has.
-pub fn put_sheet(
-    size: usize,
-    cs: &[u16],
-    cr: &[u16],
-    or: &[u16],
-    oc: &[u16],
-    bytes: &mut [u8],
-) -> usize
-    requires { Sized size × Good size cs.now cr.now × (size ≤ length or.now) × (size ≤ length oc.now)
-        × (length (sheet (record_in size cs.now cr.now or.now oc.now)) ≤ length bytes.old) }
-    ensures { (result ≡ length (sheet (record_in size cs.now cr.now or.now oc.now)))
-        × (bytes.new ≡ over (sheet (record_in size cs.now cr.now or.now oc.now)) bytes.old) }
+pub fn put_sheet(columns: Formed, order_rows: &[u16], order_cols: &[u16], bytes: &mut [u8]) -> usize
+    requires { (columns.size ≤ length order_rows.now) × (columns.size ≤ length order_cols.now)
+        × (length (sheet (record_with columns order_rows.now order_cols.now)) ≤ length bytes.old) }
+    ensures { (result ≡ length (sheet (record_with columns.entry order_rows.now order_cols.now)))
+        × (bytes.new ≡ over (sheet (record_with columns.entry order_rows.now order_cols.now)) bytes.old) }
 {
-    let columns = put(size as u32, bytes, 0);
-    let order = put_columns(size, cs, cr, bytes, columns);
-    put_order(size, or, oc, bytes, order)
+    let mut sink = Bytes { bytes, len: 0 };
+    put_record(columns, order_rows, order_cols, &mut sink);
+    sink.len
 }

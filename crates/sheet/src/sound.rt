@@ -16,14 +16,13 @@ ghost use Rattle.sheet.specs.Sheet.{firsts, seconds};
 use crate::items::{known, known_pair};
 use crate::number::Step;
 use register::Register;
+use register::places::NOWHERE;
 
-// What stands in the scratch list for a row that has no place.
-const NOWHERE: u16 = 1000;
-
-// Enters the place of each row of the order. False where one has a place already.
+// Enters the place of each row of the order. False where one has a place already. It is `enter` of `register` for numbers that lie in
+// bytes: to be one function over both it would need an iterator over the bytes with laws of its own.
 fn enter(bytes: &[u8], place: usize, m: u32, places: &mut [u16; Register::MAX_SIZE]) -> bool
     requires got { (m ≤ max_size) × Got [] (order_at bytes.now m place) }
-    requires none_placed { (length places.old ≡ max_size) × ((x : ℕ) → x < max_size → at places.old x ≡ max_size) }
+    requires none_placed { (x : ℕ) → x < max_size → at places.old x ≡ max_size }
     ensures { Told result
         (Placed m (at (firsts (thing [] (order_at bytes.now m place)))) places.new)
         (¬ Once (at (firsts (thing [] (order_at bytes.now m place)))) m m) }
@@ -71,7 +70,7 @@ fn tops(
     places: &[u16; Register::MAX_SIZE],
     tops: &mut [u16; Register::MAX_SIZE],
 )
-    requires { (m ≤ max_size) × Got [] (columns_at bytes.now m place) × ((x : ℕ) → x < m → at places.now x < m) × (length tops.old ≡ max_size) }
+    requires { (m ≤ max_size) × Got [] (columns_at bytes.now m place) × ((x : ℕ) → x < m → at places.now x < m) }
     ensures { (c : ℕ) → c < m → at tops.new c
         ≡ greatest (λ (x : ℕ). suc (at places.now x)) (column (thing [] (columns_at bytes.now m place)) c) }
 {

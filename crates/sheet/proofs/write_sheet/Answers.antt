@@ -2,8 +2,9 @@
 use Prim.Native.Nat.{◌≤◌}
 use native.Mathlib.Omega.{arith}
 use lib.ListN.{length}
-use Rattle.register.specs.Lent.{Lists, lists, SoundLists}
-use Rattle.register.proofs.Soundness.{fault_none, columns_good}
+use Rattle.register.specs.Lent.{Lists, SoundLists}
+use Rattle.register.specs.Loan.{seen}
+use Rattle.register.proofs.Soundness.{fault_none}
 use Rattle.sheet.specs.Sheet.{record_of, sheet}
 use Rattle.sheet.proofs.Sizes.{sheet_longest}
 use Rattle.sheet.proofs.Writing.{write_taken}
@@ -13,9 +14,7 @@ use Rattle.sheet.proofs.write_sheet.Goals.{Joined-bytes-lt-LONGEST, then-bytes-l
 -- Where the ways join the lists are sound, and there is room: it was measured, or no sheet is longer.
 module _ (c : Joined-bytes-lt-LONGEST) where
   abbrev lent : Lists
-  lent =
-      lists c.args.col_starts.now c.args.col_rows.now c.args.row_starts.now c.args.row_cols.now
-      c.args.order_rows.now c.args.order_cols.now
+  lent = seen c.args.lists
 
   sound : SoundLists c.args.size lent
   sound = fault_none c.args.size lent c.in_ok-check.ensures
@@ -31,7 +30,7 @@ pub put_sheet-requires : goal.put_sheet-requires
 put_sheet-requires c =
     let j = (goal.at.put_sheet-requires c).Joined-bytes-lt-LONGEST in
     let s = sound j in
-    (s.sized, columns_good s, s.long.order_rows_fit, s.long.order_cols_fit, fits j)
+    (s.long.order_rows_fit, s.long.order_cols_fit, fits j)
 
 pub returns : goal.returns
 returns c =

@@ -56,7 +56,7 @@ module _ (c : After-known-m) where
   formed : Columns m (x start).columns
   formed = columns_formed (bytes start) m c.known-m.result.next (columns_found (lies start).2 size_read)
 
-  room : RoomFor m (x start).columns c.args.cs.now c.args.cr.now
+  room : RoomFor m (x start).columns c.args.lists.now.col_starts.now c.args.lists.now.col_rows.now
   room = record { size = formed.size; starts_fit = omega (arith, size_is, c.requires.1.col_starts_fit); entries_fit = c.requires.1.col_rows_fit }
 
 -- Once the columns stand in their lists.
@@ -70,7 +70,7 @@ module _ (c : After-fill_columns-order) where
   order_read : order_at (bytes start_of_fill_columns_order) (m after_known_m) c.fill_columns-order.result ≡ got (x start_of_fill_columns_order).order (length (bytes start_of_fill_columns_order))
   order_read = order_found (lies start_of_fill_columns_order).2 (size_read after_known_m) c.fill_columns-order.ensures.0
 
-  held : Held (x start_of_fill_columns_order).columns c.args.cs.now c.args.cr.now c.fill_columns-order.new.cs c.fill_columns-order.new.cr
+  held : Held (x start_of_fill_columns_order).columns c.args.lists.now.col_starts.now c.args.lists.now.col_rows.now c.fill_columns-order.new.cs c.fill_columns-order.new.cr
   held = rw (columns_are after_known_m) at c.fill_columns-order.ensures.1
 
 pub known-m-requires : goal.known-m-requires
@@ -89,19 +89,22 @@ fill_order-requires c =
     let after_known_m = (goal.at.fill_order-requires c).After-known-m in
     (small after_known_m, got_is [] (order_read (goal.at.fill_order-requires c).After-fill_columns-order), omega (arith, size_is after_known_m, c.requires.1.order_rows_fit), omega (arith, size_is after_known_m, c.requires.1.order_cols_fit))
 
+pub invariant_of-columns : goal.invariant_of-columns
+invariant_of-columns c =
+    let after_known_m = (goal.at.invariant_of-columns c).After-known-m in
+    record { good = stored_good (room after_known_m) (held (goal.at.invariant_of-columns c).After-fill_columns-order) (formed after_known_m) (record_well (lies (goal.at.invariant_of-columns c).Start).2).few (small after_known_m) }
+
 pub turn-requires : goal.turn-requires
 turn-requires c =
-    let after_known_m = (goal.at.turn-requires c).After-known-m in
-    let after_fill_columns_order = (goal.at.turn-requires c).After-fill_columns-order in (
-      stored_good (room after_known_m) (held after_fill_columns_order) (formed after_known_m) (record_well (lies (goal.at.turn-requires c).Start).2).few (small after_known_m),
+    let after_known_m = (goal.at.turn-requires c).After-known-m in (
       omega (arith, size_is after_known_m, c.requires.1.row_starts_fit),
-      omega (arith, stored_total (room after_known_m) (held after_fill_columns_order), c.requires.1.row_cols_fit),
+      omega (arith, stored_total (room after_known_m) (held (goal.at.turn-requires c).After-fill_columns-order), c.requires.1.row_cols_fit),
     )
 
-pub returns : goal.returns
-returns c =
-    let after_known_m = (goal.at.returns c).After-known-m in
-    let after_fill_columns_order = (goal.at.returns c).After-fill_columns-order in
+pub returns-clause-filled : goal.returns-clause-filled
+returns-clause-filled c =
+    let after_known_m = (goal.at.returns-clause-filled c).After-known-m in
+    let after_fill_columns_order = (goal.at.returns-clause-filled c).After-fill_columns-order in
     let rows = stored_turned (room after_known_m) (held after_fill_columns_order) (size_is after_known_m) c.turn.ensures in
     let order = thing_is [] (order_read after_fill_columns_order) in
     cc ((held after_fill_columns_order).starts_after, (held after_fill_columns_order).entries_after, rows.starts_after, rows.entries_after, rw order at c.fill_order.ensures.0, rw order at c.fill_order.ensures.1)

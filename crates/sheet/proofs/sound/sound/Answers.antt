@@ -1,5 +1,4 @@
 -- `sound`: the rows' places, the columns' greatest places, and what they say of the order.
-use mathlib.Core.Path.{refl}
 use lib.ListN.{get_or-replicate}
 use Rattle.listing.proofs.Answers.{shown}
 use Rattle.register.proofs.Orders.{placed_below}
@@ -8,11 +7,11 @@ use Rattle.sheet.proofs.Tops.{tops_sound}
 use Rattle.sheet.proofs.sound.sound.Goals as goal
 
 pub enter-requires-clause-none_placed : goal.enter-requires-clause-none_placed
-enter-requires-clause-none_placed c = (refl, λ x h. get_or-replicate 1000 x 1000 0 h)
+enter-requires-clause-none_placed c = λ x h. get_or-replicate 1000 x 1000 0 h
 
 pub tops-requires : goal.tops-requires
 tops-requires c =
-    (c.requires.0, c.requires.1, placed_below (shown c.enter.ensures c.if-not-enter.false), refl)
+    (c.requires.0, c.requires.1, placed_below (shown c.enter.ensures c.if-not-enter.false))
 
 pub returns : goal.returns
 returns c =
