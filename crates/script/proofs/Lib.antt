@@ -3,13 +3,13 @@ pub mod OneByte
 pub mod Feeding
 pub mod Chunks
 pub mod Steadiness
-pub mod LentLengths
+pub mod Roominess
+pub mod RoomKept
 pub mod Takings
 pub mod Bounds
 pub mod Determined
 pub mod TwoLadders
 pub mod Heads
-pub mod Roominess
 pub mod SameColumns
 pub mod SameRegisters
 pub mod SameStarts

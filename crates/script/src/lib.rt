@@ -6,14 +6,16 @@
 mod bytes;
 
 ghost use Rattle.std.specs.Prelude.{cond, [], ◌≡◌};
-ghost use Rattle.register.specs.Lent.{lists};
+ghost use Rattle.register.specs.Loan.{held, SameLists};
 ghost use Rattle.replies.specs.Replies.{bad_line};
 ghost use Rattle.turns.specs.Turns.{lent, run, begun};
 ghost use Rattle.script.specs.Feed.{fed_out, Feeds, Finishes};
 ghost use Rattle.script.specs.Tryout.{has_ended, closing};
 
 use crate::bytes::{feed_ready, ready};
+use register::lent::LentMut;
 use replies::{MAX_REPLY, bad_line};
+use text::output::Output;
 use turns::{State, Turn};
 
 // What comes of bytes that are fed: how the run stands, how many bytes were taken, and how many were written.
@@ -48,49 +50,22 @@ pub fn feed(
     state: State,
     line: &mut [u8],
     numbers: &mut [u16],
-    col_starts: &mut [u16],
-    col_rows: &mut [u16],
-    row_starts: &mut [u16],
-    row_cols: &mut [u16],
-    order_rows: &mut [u16],
-    order_cols: &mut [u16],
+    lists: &mut LentMut,
     eta: &mut [u16],
     out: &mut [u8],
 ) -> Fed
-    ensures { Feeds
-        (run state
-        (lent (lists col_starts.old col_rows.old row_starts.old row_cols.old order_rows.old order_cols.old)
-        eta.old numbers.old line.old))
-        chunk.now out.old
-        (fed_out
-        (run result.state
-        (lent (lists col_starts.new col_rows.new row_starts.new row_cols.new order_rows.new order_cols.new)
-        eta.new numbers.new line.new))
-        result.taken result.written out.new) }
+    ensures same_lists { SameLists lists.old lists.new }
+    ensures feeds { Feeds (run state (lent (held lists.old) eta.old numbers.old line.old)) chunk.now out.old
+        (fed_out (run result.state (lent (held lists.new) eta.new numbers.new line.new)) result.taken result.written out.new) }
 {
-    if !ready(
-        chunk.len(),
-        state,
-        line,
-        numbers,
-        col_starts,
-        col_rows,
-        row_starts,
-        row_cols,
-        order_rows,
-        order_cols,
-        eta,
-    ) {
+    if !ready(chunk.len(), state, line, numbers, lists.view(), eta) {
         return Fed {
             state,
             taken: 0,
             written: 0,
         };
     }
-    feed_ready(
-        chunk, state, line, numbers, col_starts, col_rows, row_starts, row_cols, order_rows,
-        order_cols, eta, out,
-    )
+    feed_ready(chunk, state, line, numbers, lists, eta, out)
 }
 
 // Whether the end of the input is a bad line.
@@ -114,5 +89,7 @@ pub fn finish(state: State, out: &mut [u8]) -> usize
     if !ends_badly(state) {
         return 0;
     }
-    bad_line(state.number, out, 0)
+    let mut output = Output { bytes: out, len: 0 };
+    bad_line(state.number, &mut output);
+    output.len
 }

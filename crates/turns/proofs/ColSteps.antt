@@ -7,8 +7,9 @@ use Prim.Native.Nat.{ℕ, ◌+◌, ◌≤◌, ◌<◌}
 use lib.Dec.{leb}
 use borrow.Author.Tests.{le-leb, lt-leb}
 use Rattle.listing.specs.Held.{over}
-use Rattle.text.specs.Puts.{Puts}
+use Rattle.text.specs.Prints.{Prints}
 use Rattle.text.specs.Text.{Speaks}
+use Rattle.text.specs.declared.output.Output.{Output}
 use Rattle.register.specs.Lent.{Lists}
 use Rattle.turns.specs.Steps.{Makes}
 use Rattle.turns.specs.Turns.{col_word, Run, state, run, lent, After, after, line_so_far, still_fits, with_column, with_numbers, StartDoes, ColEnds, ColDoes, LineDoes}
@@ -34,24 +35,24 @@ module _ (r : Run) (m c : ℕ) (fits : Bool) {now_fits : Bool} {l : Lists} {new 
       (subst (λ (b : Bool). ColEnds last r m c t.rows (with_column L c t.rows b) b a) t.fitting
       (subst (λ (l : Lists). ColEnds last r m c t.rows l now_fits a) t.stands d))
 
-  module _ {s : State} {place next : ℕ} {out out' : List ℕ} where
+  module _ {s : State} {out out' : Output} where
     -- The numbers are those of the line.
     made : {l' : Lists} (said : List ℕ) → ColDoes r m c fits t.rows (after (run s (with_numbers r.lent (c ∷ t.rows) l' r.lent.eta)) said)
-        → Puts place said out next out' → Makes (LineDoes (turn.Column m c fits) r) place out (run s (lent l' r.lent.eta new r.lent.line)) next out'
+        → Prints said out out' → Makes (LineDoes (turn.Column m c fits) r) out (run s (lent l' r.lent.eta new r.lent.line)) out'
     made {l'} said d p =
-        subst (λ (n : List ℕ). Makes (LineDoes (turn.Column m c fits) r) place out (run s (lent l' r.lent.eta n r.lent.line)) next out') (sym t.kept)
+        subst (λ (n : List ℕ). Makes (LineDoes (turn.Column m c fits) r) out (run s (lent l' r.lent.eta n r.lent.line)) out') (sym t.kept)
         (makes_taken r t.rows said t.says d p)
 
     -- A column before the last.
-    pub col_goes_on : c + 1 < m → s ≡ state (turn.Column m (c + 1) now_fits) (r.state.number + 1) 0 → Puts place [] out next out'
-        → Makes (LineDoes (turn.Column m c fits) r) place out (run s (lent l r.lent.eta new r.lent.line)) next out'
+    pub col_goes_on : c + 1 < m → s ≡ state (turn.Column m (c + 1) now_fits) (r.state.number + 1) 0 → Prints [] out out'
+        → Makes (LineDoes (turn.Column m c fits) r) out (run s (lent l r.lent.eta new r.lent.line)) out'
     col_goes_on h e p =
         let now = with_numbers r.lent (c ∷ t.rows) l r.lent.eta in
         made [] (does_stored (after (run s now) []) (lt-leb m (c + 1) h) (same_after now [] e)) p
 
     -- The last.
     pub col_opens : {l' : Lists} → m ≤ c + 1
-        → Makes (StartDoes r m (c ∷ t.rows) l now_fits) place out (run s (with_numbers r.lent (c ∷ t.rows) l' r.lent.eta)) next out'
-        → Makes (LineDoes (turn.Column m c fits) r) place out (run s (lent l' r.lent.eta new r.lent.line)) next out'
+        → Makes (StartDoes r m (c ∷ t.rows) l now_fits) out (run s (with_numbers r.lent (c ∷ t.rows) l' r.lent.eta)) out'
+        → Makes (LineDoes (turn.Column m c fits) r) out (run s (lent l' r.lent.eta new r.lent.line)) out'
     col_opens {l'} h k =
-        made k.said (does_stored (after (run s (with_numbers r.lent (c ∷ t.rows) l' r.lent.eta)) k.said) (le-leb m (c + 1) h) k.does) k.puts
+        made k.said (does_stored (after (run s (with_numbers r.lent (c ∷ t.rows) l' r.lent.eta)) k.said) (le-leb m (c + 1) h) k.does) k.prints

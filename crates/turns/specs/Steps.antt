@@ -1,24 +1,25 @@
 -- What a step of a run makes, for the contracts of the steps of `bytes` and of the turns. Rests on Turns.antt, `text` and
 -- `replies`.
-use Rattle.std.specs.Prelude.{List, ◌∷◌, ◌≡◌, ℕ, ◌+◌, ◌≤◌, ◌<◌, length, Option, Some, None}
-use Rattle.text.specs.Puts.{Puts}
+use Rattle.std.specs.Prelude.{List, ◌∷◌, ◌≡◌, ℕ, ◌≤◌, ◌<◌, length, Option, Some, None}
+use Rattle.text.specs.Prints.{HasRoom, Prints}
 use Rattle.text.specs.Text.{max_count, max_line, Speaks}
+use Rattle.text.specs.declared.output.Output.{Output}
 use Rattle.replies.specs.Replies.{max_reply}
 use Rattle.turns.specs.Turns.{col_word, Run, After, after}
 use Rattle.turns.specs.declared.State.{State}
 
--- A line list and an output list, from a place on, that have room for a step.
-pub record Steady (s : State) (line : List ℕ) (place : ℕ) (out : List ℕ) : Type 0 where
+-- A line list and an output that have room for a step.
+pub record Steady (s : State) (line : List ℕ) (out : Output) : Type 0 where
   pub line_long : max_line ≤ length line
   pub line_short : s.used ≤ max_line
   pub countable : s.number < max_count
-  pub room : place + max_reply ≤ length out
+  pub room : HasRoom max_reply out
 
--- What a step gives back: something comes of it, and what that prints has been put at the place.
-pub record Makes (Does : After → Type 0) (place : ℕ) (out : List ℕ) (r' : Run) (next : ℕ) (out' : List ℕ) : Type 0 where
+-- What a step gives back: something comes of it, and what that says has been printed.
+pub record Makes (Does : After → Type 0) (out : Output) (r' : Run) (out' : Output) : Type 0 where
   pub said : List ℕ
   pub does : Does (after r' said)
-  pub puts : Puts place said out next out'
+  pub prints : Prints said out out'
 
 -- How many numbers the line 'col c rows' has; or that it is no such line.
 abbrev pub ColCount : (line : List ℕ) (c : ℕ) → Option ℕ → Type 0

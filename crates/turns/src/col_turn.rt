@@ -2,19 +2,24 @@
 ghost use Rattle.std.specs.Prelude.{List, ◌≡◌, ℕ, ◌+◌, ◌≤◌, ◌<◌, length};
 ghost use Rattle.listing.specs.Held.{over};
 ghost use Rattle.listing.specs.Limits.{max_size, max_total};
+ghost use Rattle.text.specs.Prints.{HasRoom};
 ghost use Rattle.text.specs.Text.{max_numbers, max_count};
 ghost use Rattle.register.specs.Takes.{Takes};
-ghost use Rattle.register.specs.Lent.{lists};
+ghost use Rattle.register.specs.Lent.{Lists, lists as six};
+ghost use Rattle.register.specs.Loan.{held, SameLists};
 ghost use Rattle.replies.specs.Replies.{max_reply};
 ghost use Rattle.turns.specs.Steps.{Steady, Makes, ColCount};
 ghost use Rattle.turns.specs.Turns.{lent, run, still_fits, with_column, StartDoes, LineDoes};
 ghost use Rattle.turns.specs.declared.Turn.TheVariants as turn;
 
 use crate::steps::{bad, next_line, refuse};
-use crate::{State, Step, Turn};
+use crate::{State, Turn};
+use listing::listing::Listed;
 use listing::lists::copy;
-use register::Register;
+use register::lent::LentMut;
+use register::{Refusal, Register};
 use text::lines::{Heard, hear, keep};
+use text::output::Output;
 
 const COL: [u8; 3] = *b"col";
 
@@ -33,8 +38,8 @@ fn col_count(line: &[u8], column: usize) -> Option<usize>
 fn store(fits: bool, column: usize, rows: &[u16], cs: &mut [u16], cr: &mut [u16]) -> bool
     requires { (column + 1 < length cs.old) × (length rows.now ≤ max_numbers) × (max_total ≤ length cr.old) }
     ensures { (rs rc or oc : List ℕ) →
-        (result ≡ still_fits (lists cs.old cr.old rs rc or oc) column rows.now fits)
-        × (lists cs.new cr.new rs rc or oc ≡ with_column (lists cs.old cr.old rs rc or oc) column rows.now result) }
+        (result ≡ still_fits (six cs.old cr.old rs rc or oc) column rows.now fits)
+        × (six cs.new cr.new rs rc or oc ≡ with_column (six cs.old cr.old rs rc or oc) column rows.now result) }
 {
     if !fits {
         return false;
@@ -50,38 +55,29 @@ fn store(fits: bool, column: usize, rows: &[u16], cs: &mut [u16], cr: &mut [u16]
 }
 
 // After the last column: the desk is opened, or the start refused.
-fn open(
-    state: State,
-    size: usize,
-    fits: bool,
-    cs: &[u16],
-    cr: &[u16],
-    rs: &mut [u16],
-    rc: &mut [u16],
-    or: &mut [u16],
-    oc: &mut [u16],
-    out: &mut [u8],
-    place: usize,
-) -> Step
-    requires { (state.number < max_count) × (place + max_reply ≤ length out.old) }
-    ensures { (old_cs old_cr new eta numbers line : List ℕ) → Makes
-        (StartDoes
-        (run state (lent (lists old_cs old_cr rs.old rc.old or.old oc.old) eta numbers line)) size new
-        (lists cs.now cr.now rs.old rc.old or.old oc.old) fits)
-        place out.old
-        (run result.state
-        (lent (lists cs.now cr.now rs.new rc.new or.new oc.new) eta (over new numbers) line))
-        result.next out.new }
+fn open(state: State, size: usize, fits: bool, lists: &mut LentMut, out: &mut Output) -> State
+    requires { (state.number < max_count) × HasRoom max_reply out.old }
+    ensures same_lists { SameLists lists.old lists.new }
+    ensures makes { (before : Lists) (new eta numbers line : List ℕ) → Makes
+        (StartDoes (run state (lent before eta numbers line)) size new (held lists.old) fits)
+        out.old (run result (lent (held lists.new) eta (over new numbers) line)) out.new }
 {
     if !fits {
-        return refuse(state, 3, out, place);
+        return refuse(state, Refusal::MalformedListing.number(), out);
     }
-    match (Register { size }).start(cs, cr, rs, rc, or, oc) {
-        Err(refusal) => refuse(state, refusal.number(), out, place),
-        Ok(()) => Step {
-            state: next_line(state, Turn::Put { size }),
-            next: place,
-        },
+    let col_starts = &mut *lists.col_starts;
+    let col_rows = &mut *lists.col_rows;
+    let row_starts = &mut *lists.row_starts;
+    let row_cols = &mut *lists.row_cols;
+    let order_rows = &mut *lists.order_rows;
+    let order_cols = &mut *lists.order_cols;
+    let columns = Listed {
+        starts: col_starts,
+        entries: col_rows,
+    };
+    match (Register { size }).start(columns, row_starts, row_cols, order_rows, order_cols) {
+        Err(refusal) => refuse(state, refusal.number(), out),
+        Ok(()) => next_line(state, Turn::Put { size }),
     }
 }
 
@@ -93,44 +89,37 @@ pub fn col_line(
     fits: bool,
     line: &[u8],
     numbers: &mut [u16],
-    cs: &mut [u16],
-    cr: &mut [u16],
-    rs: &mut [u16],
-    rc: &mut [u16],
-    or: &mut [u16],
-    oc: &mut [u16],
-    out: &mut [u8],
-    place: usize,
-) -> Step
-    requires { Steady state line.now place out.old × (column < size) × (size ≤ max_size) × (max_numbers ≤ length numbers.old)
-        × Takes max_size max_total (lists cs.old cr.old rs.old rc.old or.old oc.old) }
-    ensures { (eta : List ℕ) → Makes
-        (LineDoes (turn.Column size column fits) (run state
-        (lent (lists cs.old cr.old rs.old rc.old or.old oc.old)
-        eta numbers.old line.now)))
-        place out.old
-        (run result.state
-        (lent (lists cs.new cr.new rs.new rc.new or.new oc.new)
-        eta numbers.new line.now)) result.next out.new }
+    lists: &mut LentMut,
+    out: &mut Output,
+) -> State
+    requires { Steady state line.now out.old × (column < size) × (size ≤ max_size) × (max_numbers ≤ length numbers.old)
+        × Takes max_size max_total (held lists.old) }
+    ensures same_lists { SameLists lists.old lists.new }
+    ensures makes { (eta : List ℕ) → Makes
+        (LineDoes (turn.Column size column fits) (run state (lent (held lists.old) eta numbers.old line.now)))
+        out.old (run result (lent (held lists.new) eta numbers.new line.now)) out.new }
 {
     let line = &line[..state.used];
     let Some(count) = col_count(line, column) else {
-        return bad(state, out, place);
+        return bad(state, out);
     };
     keep(line, &COL, numbers);
-    let now_fits = store(fits, column, &numbers[1..count], cs, cr);
+    let now_fits = store(
+        fits,
+        column,
+        &numbers[1..count],
+        lists.col_starts,
+        lists.col_rows,
+    );
     if column + 1 < size {
-        return Step {
-            state: next_line(
-                state,
-                Turn::Column {
-                    size,
-                    column: column + 1,
-                    fits: now_fits,
-                },
-            ),
-            next: place,
-        };
+        return next_line(
+            state,
+            Turn::Column {
+                size,
+                column: column + 1,
+                fits: now_fits,
+            },
+        );
     }
-    open(state, size, now_fits, cs, cr, rs, rc, or, oc, out, place)
+    open(state, size, now_fits, lists, out)
 }

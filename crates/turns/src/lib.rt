@@ -29,10 +29,3 @@ pub struct State {
     pub number: usize,
     pub used: usize,
 }
-
-// How the run stands after a step, and the place after what was printed.
-#[derive(Drop)]
-pub struct Step {
-    pub state: State,
-    pub next: usize,
-}

@@ -1,13 +1,14 @@
 // How a run goes on to the next line, and what ends it: a bad line, or a refused start.
-ghost use Rattle.std.specs.Prelude.{◌≡◌, ◌+◌, ◌≤◌, ◌<◌, length};
-ghost use Rattle.text.specs.Puts.{Puts};
+ghost use Rattle.std.specs.Prelude.{◌≡◌, ◌+◌, ◌<◌};
+ghost use Rattle.text.specs.Prints.{HasRoom, Prints};
 ghost use Rattle.text.specs.Text.{max_count};
 ghost use Rattle.replies.specs.Replies.{max_reply, bad_line, start_refused};
 ghost use Rattle.turns.specs.Turns.{state as standing};
 ghost use Rattle.turns.specs.declared.Turn.TheVariants as turn;
 
-use crate::{State, Step, Turn};
+use crate::{State, Turn};
 use replies::{bad_line, start_refused};
+use text::output::Output;
 
 // The run ended.
 fn ended(state: State) -> State
@@ -32,25 +33,19 @@ pub fn next_line(state: State, turn: Turn) -> State
 }
 
 // 'bad line k' ends the run.
-pub fn bad(state: State, out: &mut [u8], place: usize) -> Step
-    requires { place + max_reply ≤ length out.old }
-    ensures { (result.state ≡ standing turn.Ended state.number state.used)
-        × Puts place (bad_line state.number) out.old result.next out.new }
+pub fn bad(state: State, out: &mut Output) -> State
+    requires { HasRoom max_reply out.old }
+    ensures { (result ≡ standing turn.Ended state.number state.used) × Prints (bad_line state.number) out.old out.new }
 {
-    Step {
-        state: ended(state),
-        next: bad_line(state.number, out, place),
-    }
+    bad_line(state.number, out);
+    ended(state)
 }
 
 // 'start REFUSED n' ends the run.
-pub fn refuse(state: State, n: usize, out: &mut [u8], place: usize) -> Step
-    requires { place + max_reply ≤ length out.old }
-    ensures { (result.state ≡ standing turn.Ended state.number state.used)
-        × Puts place (start_refused n) out.old result.next out.new }
+pub fn refuse(state: State, n: usize, out: &mut Output) -> State
+    requires { HasRoom max_reply out.old }
+    ensures { (result ≡ standing turn.Ended state.number state.used) × Prints (start_refused n) out.old out.new }
 {
-    Step {
-        state: ended(state),
-        next: start_refused(n, out, place),
-    }
+    start_refused(n, out);
+    ended(state)
 }

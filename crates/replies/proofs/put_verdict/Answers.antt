@@ -1,76 +1,69 @@
--- `put_verdict`: seven parts, one behind another.
+-- `put_verdict`: seven parts, one behind another, which are no longer than the room.
 use mathlib.Core.List.{List, [], ◌∷◌}
 use mathlib.Core.Path.{refl}
 use Prim.Native.Nat.{ℕ}
+use native.Mathlib.Omega.{arith}
 use lib.ListN.{drop}
 use Rattle.pattern.specs.Order.{pairs}
 use Rattle.text.specs.Text.{LF, spaced}
-use Rattle.text.proofs.Parts.{joined, Left, none_put, part_room, part_put, all_put}
+use Rattle.text.specs.declared.output.Output.{Output}
+use Rattle.text.proofs.Printing.{joined, Left, none_printed, part_room, part_printed, all_printed}
 use Rattle.replies.specs.Replies.{eta_word, places_word, eta_text, places_text}
+use Rattle.replies.proofs.Lengths.{verdict_few}
 use Rattle.replies.proofs.put_verdict.Goals as goal
-use Rattle.replies.proofs.put_verdict.Goals.{After-put_eta-at, After-put_places-at, After-put_spaced-at, After-put_word-at, After-put_word-at-2, After-put_word-at-3, Start}
+use Rattle.replies.proofs.put_verdict.Goals.{After-put_eta, After-word, After-word-2, Start}
 
--- The parts, which have room.
 module _ (s : Start) where
   abbrev parts : List (List ℕ)
   parts =
-      s.args.word.now ∷ spaced (s.args.bump ∷ []) ∷ eta_word ∷ eta_text s.args.eta.now ∷ places_word
-      ∷ places_text (pairs s.args.m s.args.rows.now s.args.cols.now) ∷ (LF ∷ []) ∷ []
+      let a = s.args in
+      a.word.now ∷ spaced (a.bump ∷ []) ∷ eta_word ∷ eta_text a.eta.now ∷ places_word ∷ places_text (pairs a.m a.rows.now a.cols.now) ∷ (LF ∷ []) ∷ []
 
-  -- The first `n` are put.
-  abbrev Done : (n i : ℕ) (new : List ℕ) → Type 0
-  Done n = Left s.args.place (joined parts) s.args.out.now (drop n parts)
+  -- The first `n` are printed.
+  abbrev Done : (n : ℕ) (out : Output) → Type 0
+  Done n = Left (joined parts) s.args.out.now (drop n parts)
 
-  none : Done 0 s.args.place s.args.out.now
-  none = none_put _ refl s.requires.2
+-- The numbers of the lists are 16-bit numbers.
+module _ (p : After-word) where
+  one : Done (goal.at.After-word p).Start 1 p.word.new.self
+  one =
+      let few = verdict_few p.args.word.now p.args.bump p.requires.0 (omega (arith, p.ranges.bump)) p.requires.1 (λ i h. omega (arith, p.type_inv.rows i)) (λ i h. omega (arith, p.type_inv.cols i)) (λ i h. omega (arith, p.type_inv.eta i)) in
+      part_printed (none_printed _ refl (omega (arith, few, p.requires.2))) p.word.ensures
 
--- One part after another.
-module _ (p : After-put_word-at) where
-  abbrev start : Start
-  start = (goal.at.After-put_word-at p).Start
-
-  one : Done start 1 p.put_word-at.result p.put_word-at.new.out
-  one = part_put (none start) p.put_word-at.ensures
-
-module _ (p : After-put_spaced-at) where
-  two : Done (goal.at.After-put_spaced-at p).Start 2 p.put_spaced-at.result p.put_spaced-at.new.out
-  two = part_put (one (goal.at.After-put_spaced-at p).After-put_word-at) p.put_spaced-at.ensures
-
-module _ (p : After-put_word-at-2) where
-  three : Done (goal.at.After-put_word-at-2 p).Start 3 p.put_word-at-2.result p.put_word-at-2.new.out
+module _ (p : After-word-2) where
+  three : Done (goal.at.After-word-2 p).Start 3 p.word-2.new.self
   unfolding eta_word
-  three = part_put (two (goal.at.After-put_word-at-2 p).After-put_spaced-at) p.put_word-at-2.ensures
+  three = part_printed (part_printed (one (goal.at.After-word-2 p).After-word) p.spaced.ensures) p.word-2.ensures
 
-module _ (p : After-put_eta-at) where
-  four : Done (goal.at.After-put_eta-at p).Start 4 p.put_eta-at.result p.put_eta-at.new.out
-  four = part_put (three (goal.at.After-put_eta-at p).After-put_word-at-2) p.put_eta-at.ensures
+module _ (p : After-put_eta) where
+  four : Done (goal.at.After-put_eta p).Start 4 p.put_eta.new.out
+  four = part_printed (three (goal.at.After-put_eta p).After-word-2) p.put_eta.ensures
 
-module _ (p : After-put_word-at-3) where
-  five : Done (goal.at.After-put_word-at-3 p).Start 5 p.put_word-at-3.result p.put_word-at-3.new.out
-  unfolding places_word
-  five = part_put (four (goal.at.After-put_word-at-3 p).After-put_eta-at) p.put_word-at-3.ensures
+pub spaced-requires : goal.spaced-requires
+spaced-requires c = part_room (one (goal.at.spaced-requires c).After-word)
 
-module _ (p : After-put_places-at) where
-  six : Done (goal.at.After-put_places-at p).Start 6 p.put_places-at.result p.put_places-at.new.out
-  six = part_put (five (goal.at.After-put_places-at p).After-put_word-at-3) p.put_places-at.ensures
-
-pub put_word-at-requires-2 : goal.put_word-at-requires-2
+pub word-requires-2 : goal.word-requires-2
 unfolding eta_word
-put_word-at-requires-2 c = part_room (two (goal.at.put_word-at-requires-2 c).After-put_spaced-at)
+word-requires-2 c = part_room (part_printed (one (goal.at.word-requires-2 c).After-word) c.spaced.ensures)
 
-pub put_eta-at-requires : goal.put_eta-at-requires
-put_eta-at-requires c = part_room (three (goal.at.put_eta-at-requires c).After-put_word-at-2)
+pub put_eta-requires : goal.put_eta-requires
+put_eta-requires c = part_room (three (goal.at.put_eta-requires c).After-word-2)
 
-pub put_word-at-requires-3 : goal.put_word-at-requires-3
+pub word-requires-3 : goal.word-requires-3
 unfolding places_word
-put_word-at-requires-3 c = part_room (four (goal.at.put_word-at-requires-3 c).After-put_eta-at)
+word-requires-3 c = part_room (four (goal.at.word-requires-3 c).After-put_eta)
 
-pub put_places-at-requires : goal.put_places-at-requires
-put_places-at-requires c =
-    (c.requires.0, c.requires.1, part_room (five (goal.at.put_places-at-requires c).After-put_word-at-3))
+pub put_places-requires : goal.put_places-requires
+unfolding places_word
+put_places-requires c =
+    (c.requires.1.in_rows, c.requires.1.in_cols, part_room (part_printed (four (goal.at.put_places-requires c).After-put_eta) c.word-3.ensures))
 
-pub put_byte-requires : goal.put_byte-requires
-put_byte-requires c = part_room (six (goal.at.put_byte-requires c).After-put_places-at)
+pub byte-requires : goal.byte-requires
+unfolding places_word
+byte-requires c =
+    part_room (part_printed (part_printed (four (goal.at.byte-requires c).After-put_eta) c.word-3.ensures) c.put_places.ensures)
 
 pub returns : goal.returns
-returns c = all_put (part_put (six (goal.at.returns c).After-put_places-at) c.put_byte.ensures)
+unfolding places_word
+returns c =
+    all_printed (part_printed (part_printed (part_printed (four (goal.at.returns c).After-put_eta) c.word-3.ensures) c.put_places.ensures) c.byte.ensures)

@@ -1,4 +1,4 @@
--- `put_places`: the places before this one are put.
+-- `put_places`: the places before this one are printed.
 use mathlib.Core.List.{List}
 use mathlib.Core.Path.{◌≡◌, ap, ap₂, ◌∙◌}
 use Prim.Native.Nat.{ℕ, ◌<◌}
@@ -10,7 +10,8 @@ use Rattle.pattern.specs.Places.{at}
 use Rattle.pattern.specs.Order.{pairs}
 use Rattle.pattern.proofs.Pairs.{pairs_length, pair_is}
 use Rattle.std.proofs.lemmas.Slice.Zip.{zip_turn, zip_end}
-use Rattle.text.proofs.Progress.{gone_all, putting_more, putting_room}
+use Rattle.text.proofs.Printing.{printing_more, printing_room}
+use Rattle.text.proofs.Progress.{gone_all}
 use Rattle.replies.specs.Replies.{place_text}
 use Rattle.replies.proofs.places.put_places.Goals as goal
 use Rattle.replies.proofs.places.put_places.Goals.{In-Some}
@@ -40,17 +41,17 @@ module _ (c : In-Some) where
       let k : at c.args.cols.now t ≡ c.in-Some.col.now = cc (turn.3 0, get_or-take c.args.m c.args.cols.now t 0 before) in
       pair_is c.args.m c.args.rows.now c.args.cols.now t before ∙ ap₂ (λ (x y : ℕ). (x, y)) r k
 
-pub put_place-at-requires : goal.put_place-at-requires
-put_place-at-requires c =
-    let w = (goal.at.put_place-at-requires c).In-Some in
+pub put_place-requires : goal.put_place-requires
+put_place-requires c =
+    let w = (goal.at.put_place-requires c).In-Some in
     rw (c.from.ensures, c.from-in-loop-row.ensures)
-    (omega (arith, putting_room c.loop-row.invariant (0, 0) (within w) c.requires.2, ap (λ (x : ℕ × ℕ). length (place_text 0 x)) (met w)))
+    (omega (arith, printing_room c.loop-row.invariant (0, 0) (within w) c.requires.2, ap (λ (x : ℕ × ℕ). length (place_text 0 x)) (met w)))
 
 pub loop-row-preserved : goal.loop-row-preserved
 loop-row-preserved c =
     let w = (goal.at.loop-row-preserved c).In-Some in
     rw length-append
-    (putting_more c.loop-row.invariant (0, 0) (within w) c.requires.2 (rw (met w, ← c.from.ensures, ← c.from-in-loop-row.ensures) c.put_place-at.ensures))
+    (printing_more c.loop-row.invariant (0, 0) (within w) c.requires.2 (rw (met w, ← c.from.ensures, ← c.from-in-loop-row.ensures) c.put_place.ensures))
 
 pub returns : goal.returns
 returns c =

@@ -8,10 +8,12 @@ use lib.ListN.{length, take, drop}
 use Rattle.listing.specs.Held.{over}
 use Rattle.text.specs.Text.{max_numbers, Speaks}
 use Rattle.text.proofs.Kept.{kept_few, kept_rows}
+use Rattle.text.proofs.Printing.{prints_none}
 use Rattle.register.specs.Lent.{Lists, lists}
+use Rattle.register.specs.Loan.{held}
 use Rattle.turns.specs.Turns.{col_word, Run, run, lent, line_so_far}
 use Rattle.turns.proofs.ColSteps.{ColStored, col_goes_on, col_opens}
-use Rattle.turns.proofs.Makings.{puts_none, steady_length}
+use Rattle.turns.proofs.Makings.{steady_length}
 use Rattle.turns.proofs.col_turn.col_line.Goals as goal
 use Rattle.turns.proofs.col_turn.col_line.Goals.{After-keep, After-store-now_fits, In-Some, Start}
 
@@ -19,9 +21,7 @@ module _ (s : Start) where
   -- The run before the line.
   abbrev begun : (eta : List ℕ) → Run
   begun eta =
-      run s.args.state
-      (lent (lists s.args.cs.now s.args.cr.now s.args.rs.now s.args.rc.now s.args.or.now s.args.oc.now) eta s.args.numbers.now
-      s.args.line.now)
+      run s.args.state (lent (held s.args.lists.now) eta s.args.numbers.now s.args.line.now)
 
   line_long : length (line_so_far (begun [])) ≡ s.args.state.used
   line_long = steady_length s.requires.0
@@ -78,29 +78,33 @@ module _ (c : After-store-now_fits) where
   abbrev after_keep : After-keep
   after_keep = (goal.at.After-store-now_fits c).After-keep
 
-  -- The lists then, with other row lists and another order.
-  abbrev with_rows : (rs rc or oc : List ℕ) → Lists
-  with_rows rs rc or oc = let l = c.store-now_fits.new in lists l.cs l.cr rs rc or oc
+  -- The lists then.
+  abbrev stored_lists : Lists
+  stored_lists =
+      let l = c.args.lists.now in
+      lists c.store-now_fits.new.cs c.store-now_fits.new.cr l.row_starts.now l.row_cols.now l.order_rows.now l.order_cols.now
 
   stored : (eta : List ℕ) → let a = c.args in
-      ColStored (begun (goal.at.After-store-now_fits c).Start eta) a.column a.fits c.store-now_fits.result (with_rows a.rs.now a.rc.now a.or.now a.oc.now) (numbers after_keep)
+      ColStored (begun (goal.at.After-store-now_fits c).Start eta) a.column a.fits c.store-now_fits.result stored_lists (numbers after_keep)
   stored eta =
-      let a = c.args in
-      let h = rw (rows_are after_keep) at (c.store-now_fits.ensures a.rs.now a.rc.now a.or.now a.oc.now) in
+      let l = c.args.lists.now in
+      let h = rw (rows_are after_keep) at (c.store-now_fits.ensures l.row_starts.now l.row_cols.now l.order_rows.now l.order_cols.now) in
       record { rows = (found counted).0; says = (found counted).1; fitting = h.0; stands = h.1; kept = kept after_keep }
 
-pub returns-then-column-size : goal.returns-then-column-size
-returns-then-column-size c eta =
+pub returns-then-column-size-clause-makes : goal.returns-then-column-size-clause-makes
+returns-then-column-size-clause-makes c eta =
     let a = c.args in
-    col_goes_on (begun (goal.at.returns-then-column-size c).Start eta) a.size a.column a.fits (stored (goal.at.returns-then-column-size c).After-store-now_fits eta) c.if-column-size.true c.next_line.ensures (puts_none a.place a.out.now)
+    let at_start = (goal.at.returns-then-column-size-clause-makes c).Start in
+    let after_store = (goal.at.returns-then-column-size-clause-makes c).After-store-now_fits in
+    col_goes_on (begun at_start eta) a.size a.column a.fits (stored after_store eta) c.if-column-size.true c.next_line.ensures (prints_none a.out.now)
 
-pub returns : goal.returns
-returns c eta =
-    let after_store_now_fits = (goal.at.returns c).After-store-now_fits in
+pub returns-clause-makes : goal.returns-clause-makes
+returns-clause-makes c eta =
     let a = c.args in
-    let l = c.«open».new in
-    col_opens (begun (goal.at.returns c).Start eta) a.size a.column a.fits (stored after_store_now_fits eta) {l' = with_rows after_store_now_fits l.rs l.rc l.or l.oc} c.if-column-size.false
-    (c.«open».ensures a.cs.now a.cr.now (a.column ∷ (stored after_store_now_fits eta).rows) eta a.numbers.now a.line.now)
+    let at_start = (goal.at.returns-clause-makes c).Start in
+    let after_store = (goal.at.returns-clause-makes c).After-store-now_fits in
+    col_opens (begun at_start eta) a.size a.column a.fits (stored after_store eta) c.if-column-size.false
+    (c.«open».ensures.makes (held a.lists.now) (a.column ∷ (stored after_store eta).rows) eta a.numbers.now a.line.now)
 
 pub slice_bounds-store-end : goal.slice_bounds-store-end
 slice_bounds-store-end c = omega (arith, few (goal.at.slice_bounds-store-end c).In-Some)
