@@ -14,6 +14,8 @@ ghost use Rattle.cabi.specs.Code.{code};
 ghost use Rattle.cabi.specs.Replace.{Gives};
 
 use judge::Judgment;
+use listing::listing::Listed;
+use register::lent::{Lent, LentMut};
 use register::{Refusal, Register};
 use replace::replace;
 
@@ -54,24 +56,33 @@ fn tell(replaced: Result<Judgment, Refusal>) -> Told
 
 // 0 for a sound register, else the number of its first fault.
 #[unsafe(no_mangle)]
-pub extern "C" fn scrollbobbin_check(
+pub extern "C" fn scrollbobbin_check<'a>(
     size: usize,
-    col_starts: &[u16],
-    col_rows: &[u16],
-    row_starts: &[u16],
-    row_cols: &[u16],
-    order_rows: &[u16],
-    order_cols: &[u16],
+    col_starts: &'a [u16],
+    col_rows: &'a [u16],
+    row_starts: &'a [u16],
+    row_cols: &'a [u16],
+    order_rows: &'a [u16],
+    order_cols: &'a [u16],
 ) -> usize
     ensures { FirstFault size
         (lists col_starts.now col_rows.now row_starts.now row_cols.now
         order_rows.now order_cols.now)
         result }
 {
-    let checked = (Register { size }).check(
-        col_starts, col_rows, row_starts, row_cols, order_rows, order_cols,
-    );
-    match checked {
+    let lists = Lent {
+        columns: Listed {
+            starts: col_starts,
+            entries: col_rows,
+        },
+        rows: Listed {
+            starts: row_starts,
+            entries: row_cols,
+        },
+        order_rows,
+        order_cols,
+    };
+    match (Register { size }).check(lists) {
         Ok(()) => 0,
         Err(refusal) => refusal.number(),
     }
@@ -79,30 +90,34 @@ pub extern "C" fn scrollbobbin_check(
 
 // The rows of one column: where they begin in the column listing's rows, and how many they are.
 #[unsafe(no_mangle)]
-pub extern "C" fn scrollbobbin_look(
+pub extern "C" fn scrollbobbin_look<'a>(
     size: usize,
-    col_starts: &[u16],
-    col_rows: &[u16],
+    col_starts: &'a [u16],
+    col_rows: &'a [u16],
     column: usize,
     begin: &mut usize,
 ) -> usize
     ensures { Spans size column col_starts.now col_rows.now (begin.new, begin.new + result) }
 {
-    let span = (Register { size }).span(col_starts, col_rows, column);
+    let columns = Listed {
+        starts: col_starts,
+        entries: col_rows,
+    };
+    let span = (Register { size }).span(columns, column);
     *begin = span.from;
     span.to - span.from
 }
 
 // Replaces one column by the new rows, or refuses.
 #[unsafe(no_mangle)]
-pub extern "C" fn scrollbobbin_replace(
+pub extern "C" fn scrollbobbin_replace<'a>(
     size: usize,
-    col_starts: &mut [u16],
-    col_rows: &mut [u16],
-    row_starts: &mut [u16],
-    row_cols: &mut [u16],
-    order_rows: &mut [u16],
-    order_cols: &mut [u16],
+    col_starts: &'a mut [u16],
+    col_rows: &'a mut [u16],
+    row_starts: &'a mut [u16],
+    row_cols: &'a mut [u16],
+    order_rows: &'a mut [u16],
+    order_cols: &'a mut [u16],
     column: usize,
     new_rows: &[u16],
     eta: &mut [u16],
@@ -119,11 +134,15 @@ pub extern "C" fn scrollbobbin_replace(
         order_rows.new order_cols.new)
         eta.new }
 {
-    let replaced = replace(
-        size, col_starts, col_rows, row_starts, row_cols, order_rows, order_cols, column, new_rows,
-        eta,
-    );
-    let told = tell(replaced);
+    let lists = &mut LentMut {
+        col_starts,
+        col_rows,
+        row_starts,
+        row_cols,
+        order_rows,
+        order_cols,
+    };
+    let told = tell(replace(size, lists, column, new_rows, eta));
     *bump = told.bump;
     *eta_count = told.eta_count;
     told.result

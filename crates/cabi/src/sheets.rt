@@ -2,18 +2,20 @@
 ghost use Rattle.register.specs.Lent.{lists};
 ghost use Rattle.cabi.specs.Sheets.{GivesSheet, GivesRegister};
 
+use listing::listing::Listed;
+use register::lent::{Lent, LentMut};
 use sheet::{read_sheet, write_sheet};
 
 // Writes the sheet of a register to the head of the bytes, or refuses.
 #[unsafe(no_mangle)]
-pub extern "C" fn scrollbobbin_write_sheet(
+pub extern "C" fn scrollbobbin_write_sheet<'a>(
     size: usize,
-    col_starts: &[u16],
-    col_rows: &[u16],
-    row_starts: &[u16],
-    row_cols: &[u16],
-    order_rows: &[u16],
-    order_cols: &[u16],
+    col_starts: &'a [u16],
+    col_rows: &'a [u16],
+    row_starts: &'a [u16],
+    row_cols: &'a [u16],
+    order_rows: &'a [u16],
+    order_cols: &'a [u16],
     bytes: &mut [u8],
     count: &mut usize,
 ) -> usize
@@ -23,10 +25,19 @@ pub extern "C" fn scrollbobbin_write_sheet(
         bytes.old
         result count.new bytes.new }
 {
-    let written = write_sheet(
-        size, col_starts, col_rows, row_starts, row_cols, order_rows, order_cols, bytes,
-    );
-    match written {
+    let lists = Lent {
+        columns: Listed {
+            starts: col_starts,
+            entries: col_rows,
+        },
+        rows: Listed {
+            starts: row_starts,
+            entries: row_cols,
+        },
+        order_rows,
+        order_cols,
+    };
+    match write_sheet(size, lists, bytes) {
         Ok(n) => {
             *count = n;
             0
@@ -40,14 +51,14 @@ pub extern "C" fn scrollbobbin_write_sheet(
 
 // Reads a sheet into the lists, or refuses.
 #[unsafe(no_mangle)]
-pub extern "C" fn scrollbobbin_read_sheet(
+pub extern "C" fn scrollbobbin_read_sheet<'a>(
     bytes: &[u8],
-    col_starts: &mut [u16],
-    col_rows: &mut [u16],
-    row_starts: &mut [u16],
-    row_cols: &mut [u16],
-    order_rows: &mut [u16],
-    order_cols: &mut [u16],
+    col_starts: &'a mut [u16],
+    col_rows: &'a mut [u16],
+    row_starts: &'a mut [u16],
+    row_cols: &'a mut [u16],
+    order_rows: &'a mut [u16],
+    order_cols: &'a mut [u16],
     size: &mut usize,
 ) -> usize
     ensures { GivesRegister
@@ -58,10 +69,15 @@ pub extern "C" fn scrollbobbin_read_sheet(
         (lists col_starts.new col_rows.new row_starts.new row_cols.new
         order_rows.new order_cols.new) }
 {
-    let filled = read_sheet(
-        bytes, col_starts, col_rows, row_starts, row_cols, order_rows, order_cols,
-    );
-    match filled {
+    let mut lists = LentMut {
+        col_starts,
+        col_rows,
+        row_starts,
+        row_cols,
+        order_rows,
+        order_cols,
+    };
+    match read_sheet(bytes, &mut lists) {
         Ok(m) => {
             *size = m;
             0

@@ -1,48 +1,56 @@
 // Registers of size 2 with the columns 0:{0} and 1:{0,1} in the order 0:0 1:1, and one fault each: in the column listing, in
 // the row listing, or in the order.
 use crate::report::check;
+use listing::listing::Listed;
+use register::lent::Lent;
 use std::io;
 
-fn columns(rt: &impl Print, label: &str, starts: &[u16], rows: &[u16]) -> io::Result<()> {
-    check(
-        rt,
-        label,
-        2,
-        starts,
-        rows,
-        &[0, 2, 3],
-        &[0, 1, 1],
-        &[0, 1],
-        &[0, 1],
-    )
+// The register without a fault.
+fn sound() -> Lent<'static> {
+    Lent {
+        columns: Listed {
+            starts: &[0, 1, 3],
+            entries: &[0, 0, 1],
+        },
+        rows: Listed {
+            starts: &[0, 2, 3],
+            entries: &[0, 1, 1],
+        },
+        order_rows: &[0, 1],
+        order_cols: &[0, 1],
+    }
 }
 
-fn rows(rt: &impl Print, label: &str, starts: &[u16], cols: &[u16]) -> io::Result<()> {
-    check(
-        rt,
-        label,
-        2,
-        &[0, 1, 3],
-        &[0, 0, 1],
-        starts,
-        cols,
-        &[0, 1],
-        &[0, 1],
-    )
+// Other columns, and the rows and the order as they were.
+fn columns<'a>(
+    rt: &impl Print,
+    label: &str,
+    starts: &'a [u16],
+    entries: &'a [u16],
+) -> io::Result<()> {
+    let columns = Listed { starts, entries };
+    check(rt, label, 2, Lent { columns, ..sound() })
 }
 
-fn order(rt: &impl Print, label: &str, rows: &[u16], cols: &[u16]) -> io::Result<()> {
-    check(
-        rt,
-        label,
-        2,
-        &[0, 1, 3],
-        &[0, 0, 1],
-        &[0, 2, 3],
-        &[0, 1, 1],
-        rows,
-        cols,
-    )
+// Other rows.
+fn rows<'a>(rt: &impl Print, label: &str, starts: &'a [u16], entries: &'a [u16]) -> io::Result<()> {
+    let rows = Listed { starts, entries };
+    check(rt, label, 2, Lent { rows, ..sound() })
+}
+
+// Another order.
+fn order<'a>(
+    rt: &impl Print,
+    label: &str,
+    order_rows: &'a [u16],
+    order_cols: &'a [u16],
+) -> io::Result<()> {
+    let lists = Lent {
+        order_rows,
+        order_cols,
+        ..sound()
+    };
+    check(rt, label, 2, lists)
 }
 
 // Replies 0 and 2.
@@ -69,17 +77,18 @@ pub fn short(rt: &impl Print) -> io::Result<()> {
 
 // Check 2 is for both listings before check 3 for one.
 pub fn short_and_malformed(rt: &impl Print) -> io::Result<()> {
-    check(
-        rt,
-        "the same, and malformed columns",
-        2,
-        &[1, 0, 3],
-        &[0, 0, 1],
-        &[0, 2, 4],
-        &[0, 1, 1],
-        &[0, 1],
-        &[0, 1],
-    )
+    let lists = Lent {
+        columns: Listed {
+            starts: &[1, 0, 3],
+            entries: &[0, 0, 1],
+        },
+        rows: Listed {
+            starts: &[0, 2, 4],
+            entries: &[0, 1, 1],
+        },
+        ..sound()
+    };
+    check(rt, "the same, and malformed columns", 2, lists)
 }
 
 // Reply 3.
@@ -107,26 +116,28 @@ pub fn unsound(rt: &impl Print) -> io::Result<()> {
 
 // Reply 5 of a pattern that has no such order.
 pub fn empty(rt: &impl Print) -> io::Result<()> {
-    check(
-        rt,
-        "a pair that is no entry",
-        2,
-        &[0, 1, 2],
-        &[0, 0],
-        &[0, 2, 2],
-        &[0, 1],
-        &[0, 1],
-        &[0, 1],
-    )?;
-    check(
-        rt,
-        "an empty column",
-        2,
-        &[0, 0, 2],
-        &[0, 1],
-        &[0, 1, 2],
-        &[1, 1],
-        &[0, 1],
-        &[0, 1],
-    )
+    let lists = Lent {
+        columns: Listed {
+            starts: &[0, 1, 2],
+            entries: &[0, 0],
+        },
+        rows: Listed {
+            starts: &[0, 2, 2],
+            entries: &[0, 1],
+        },
+        ..sound()
+    };
+    check(rt, "a pair that is no entry", 2, lists)?;
+    let lists = Lent {
+        columns: Listed {
+            starts: &[0, 0, 2],
+            entries: &[0, 1],
+        },
+        rows: Listed {
+            starts: &[0, 1, 2],
+            entries: &[1, 1],
+        },
+        ..sound()
+    };
+    check(rt, "an empty column", 2, lists)
 }

@@ -2,12 +2,24 @@
 ghost use Rattle.std.specs.Prelude.{◌≤◌};
 
 use crate::report::check;
+use listing::listing::Listed;
 use register::Register;
+use register::lent::Lent;
 use std::io;
 
 // The lists of a register of size 1.
 fn size(rt: &impl Print, label: &str, m: usize) -> io::Result<()> {
-    check(rt, label, m, &[0, 1], &[0], &[0, 1], &[0], &[0], &[0])
+    let listed = Listed {
+        starts: &[0, 1],
+        entries: &[0],
+    };
+    let lists = Lent {
+        columns: listed,
+        rows: listed,
+        order_rows: &[0],
+        order_cols: &[0],
+    };
+    check(rt, label, m, lists)
 }
 
 pub fn sizes(rt: &impl Print) -> io::Result<()> {
@@ -56,45 +68,16 @@ fn rows(more: usize, starts: &mut [u16; 1001], cols: &mut [u16; 12001]) {
     starts[1000] = n as u16;
 }
 
-// A register of size 1,000 in the order t:t, with entry lists cut to the given length.
-fn cut(
-    rt: &impl Print,
-    label: &str,
-    cs: &[u16],
-    cr: &[u16],
-    rs: &[u16],
-    rc: &[u16],
-    length: usize,
-) -> io::Result<()> {
-    let order = Register::fresh_order();
-    if length <= cr.len() && length <= rc.len() {
-        check(
-            rt,
-            label,
-            1000,
-            cs,
-            &cr[..length],
-            rs,
-            &rc[..length],
-            &order,
-            &order,
-        )?;
+// A listing with its entry list cut to the given length.
+fn cut<'a>(starts: &'a [u16], entries: &'a [u16], length: usize) -> Listed<'a> {
+    let length = length.min(entries.len());
+    Listed {
+        starts,
+        entries: &entries[..length],
     }
-    Ok(())
 }
 
-fn whole(
-    rt: &impl Print,
-    label: &str,
-    cs: &[u16; 1001],
-    cr: &[u16; 12001],
-    rs: &[u16; 1001],
-    rc: &[u16; 12001],
-    length: usize,
-) -> io::Result<()> {
-    cut(rt, label, cs, cr, rs, rc, length)
-}
-
+// A register of size 1,000 in the order t:t, with entry lists cut to the given length.
 fn total(rt: &impl Print, label: &str, more: usize, length: usize) -> io::Result<()> {
     let mut cs = [0u16; 1001];
     let mut cr = [0u16; 12001];
@@ -102,7 +85,14 @@ fn total(rt: &impl Print, label: &str, more: usize, length: usize) -> io::Result
     let mut rc = [0u16; 12001];
     columns(more, &mut cs, &mut cr);
     rows(more, &mut rs, &mut rc);
-    whole(rt, label, &cs, &cr, &rs, &rc, length)
+    let order = Register::fresh_order();
+    let lists = Lent {
+        columns: cut(&cs, &cr, length),
+        rows: cut(&rs, &rc, length),
+        order_rows: &order,
+        order_cols: &order,
+    };
+    check(rt, label, 1000, lists)
 }
 
 pub fn totals(rt: &impl Print) -> io::Result<()> {

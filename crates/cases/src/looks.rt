@@ -1,17 +1,19 @@
 // Looks: the length of the part that is handed back.
 use crate::report::line;
+use listing::listing::Listed;
 use register::Register;
 use std::io;
 
-fn look(
+fn look<'a>(
     rt: &impl Print,
     label: &str,
     m: usize,
-    starts: &[u16],
-    rows: &[u16],
+    starts: &'a [u16],
+    entries: &'a [u16],
     column: usize,
 ) -> io::Result<()> {
-    let part = (Register { size: m }).look(starts, rows, column);
+    let columns = Listed { starts, entries };
+    let part = (Register { size: m }).look(columns, column);
     line(rt, label, part.len())
 }
 

@@ -1,5 +1,6 @@
 // One line of the report.
 use register::Register;
+use register::lent::Lent;
 use std::io;
 
 pub fn line(rt: &impl Print, label: &str, number: usize) -> io::Result<()> {
@@ -7,18 +8,8 @@ pub fn line(rt: &impl Print, label: &str, number: usize) -> io::Result<()> {
 }
 
 // The number of a lent register's first fault, or 0.
-pub fn check(
-    rt: &impl Print,
-    label: &str,
-    m: usize,
-    cs: &[u16],
-    cr: &[u16],
-    rs: &[u16],
-    rc: &[u16],
-    or: &[u16],
-    oc: &[u16],
-) -> io::Result<()> {
-    match (Register { size: m }).check(cs, cr, rs, rc, or, oc) {
+pub fn check(rt: &impl Print, label: &str, m: usize, lists: Lent) -> io::Result<()> {
+    match (Register { size: m }).check(lists) {
         Ok(()) => line(rt, label, 0),
         Err(refusal) => line(rt, label, refusal.number()),
     }
