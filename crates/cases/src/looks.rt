@@ -1,19 +1,17 @@
 // Looks: the length of the part that is handed back.
 use crate::report::line;
-use listing::listing::Listed;
 use register::Register;
 use std::io;
 
-fn look<'a>(
+fn look(
     rt: &impl Print,
     label: &str,
     m: usize,
-    starts: &'a [u16],
-    entries: &'a [u16],
+    starts: &[u16],
+    rows: &[u16],
     column: usize,
 ) -> io::Result<()> {
-    let columns = Listed { starts, entries };
-    let part = (Register { size: m }).look(columns, column);
+    let part = (Register { size: m }).look(starts, rows, column);
     line(rt, label, part.len())
 }
 

@@ -15,8 +15,10 @@ use Rattle.listing.proofs.listed_mut.ListedMut.view.Kinds as view-kinds
 use Rattle.listing.proofs.listed_mut.ListedMut.view.Reads as view
 use Rattle.listing.proofs.listing.Listed.formed.Kinds as formed-kinds
 use Rattle.listing.proofs.listing.Listed.formed.Reads as formed
-use Rattle.listing.proofs.listing.Listed.part.Kinds as part-kinds
-use Rattle.listing.proofs.listing.Listed.part.Reads as part
+use Rattle.listing.proofs.listing.Listed.part.Kinds as listed-part-kinds
+use Rattle.listing.proofs.listing.Listed.part.Reads as listed-part
+use Rattle.listing.proofs.listing.part.Kinds as part-kinds
+use Rattle.listing.proofs.listing.part.Reads as part
 use Rattle.listing.proofs.listing.Listed.parts_rise.Kinds as parts-rise-kinds
 use Rattle.listing.proofs.listing.Listed.parts_rise.Reads as parts-rise
 use Rattle.listing.proofs.listing.rising.Kinds as rising-kinds
@@ -45,6 +47,9 @@ wide_determined κs a h x y ws vs p q = (same p q, refl)
 
 pub part_determined : DeterminedAs part-kinds.ps part-kinds.r part.Pre part.Post (λ κs r. r.now) (λ κs a ws. ws)
 part_determined κs a h x y ws vs p q = (same p q, refl)
+
+pub listed_part_determined : DeterminedAs listed-part-kinds.ps listed-part-kinds.r listed-part.Pre listed-part.Post (λ κs r. r.now) (λ κs a ws. ws)
+listed_part_determined κs a h x y ws vs p q = (same p q, refl)
 
 pub formed_part_determined : DeterminedAs formed-part-kinds.ps formed-part-kinds.r formed-part.Pre formed-part.Post (λ κs r. r.now) (λ κs a ws. ws)
 formed_part_determined κs a h x y ws vs p q = (same p q, refl)

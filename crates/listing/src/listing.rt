@@ -17,6 +17,16 @@ pub struct Listed<'a> {
     pub entries: &'a [u16],
 }
 
+// Part k of a listing whose starts need not be lent as long as its entries.
+pub fn part<'a>(starts: &[u16], entries: &'a [u16], k: usize) -> &'a [u16]
+    requires { (k + 1 < length starts.now) × Within starts.now entries.now k }
+    ensures { result.now ≡ part starts.now entries.now k }
+{
+    let from = wide(starts[k]);
+    let to = wide(starts[k + 1]);
+    &entries[from..to]
+}
+
 // Whether the numbers are below m and strictly rise. Of numbers that rise, the last is the greatest.
 pub fn rising(m: usize, numbers: &[u16]) -> bool
     ensures { Says result (Rising m numbers.now) }
@@ -47,9 +57,7 @@ impl<'a> Listed<'a> {
         requires { (k + 1 < length self.starts.now) × Within self.starts.now self.entries.now k }
         ensures { result.now ≡ part self.entry.starts.now self.entry.entries.now k }
     {
-        let from = wide(self.starts[k]);
-        let to = wide(self.starts[k + 1]);
-        &self.entries[from..to]
+        part(self.starts, self.entries, k)
     }
 
     // Whether the m + 1 starts are right. A loop without an exit looks at many of them at a time.

@@ -125,10 +125,14 @@ impl Register {
     }
 
     // The rows of one column, as a part of the caller's own list.
-    pub fn look<'a>(self, columns: Listed<'a>, column: usize) -> &'a [u16]
-        ensures { Looked self.size column columns.entry.starts.now columns.entry.entries.now result.now }
+    pub fn look<'a>(self, col_starts: &[u16], col_rows: &'a [u16], column: usize) -> &'a [u16]
+        ensures { Looked self.size column col_starts.now col_rows.now result.now }
     {
+        let columns = Listed {
+            starts: col_starts,
+            entries: col_rows,
+        };
         let span = self.span(columns, column);
-        &columns.entries[span.from..span.to]
+        &col_rows[span.from..span.to]
     }
 }

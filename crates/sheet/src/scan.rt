@@ -77,7 +77,7 @@ fn scan_order(bytes: &[u8], place: usize, m: u32) -> Result<Step, Fault>
     ensures { told result ≡ gauged length (order_at bytes.now m place) }
 {
     let mut at = place;
-    for _ in 0..m {
+    for _t in 0..m {
         at = scan_pair(bytes, at, m)?.next;
     }
     Ok(Step { value: m, next: at })

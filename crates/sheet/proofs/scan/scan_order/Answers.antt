@@ -10,13 +10,13 @@ use Rattle.sheet.proofs.scan.scan_order.Goals as goal
 
 pub returns-in_err-at : goal.returns-in_err-at
 returns-in_err-at c =
-    let e = gauged_bad (λ (p : ℕ × ℕ). p.1) (pair_at c.args.bytes.now c.args.m 0 c.loop.at) (sym c.in_err-at.ensures) in
-    rw (handed_on _ _ c.from_residual.ensures.1) (sym (partly_fault c.loop.invariant (omega arith) (pair_any c.args.bytes.now c.args.m c.loop.counter c.loop.at 0 ∙ e)))
+    let e = gauged_bad (λ (p : ℕ × ℕ). p.1) (pair_at c.args.bytes.now c.args.m 0 c.loop-t.at) (sym c.in_err-at.ensures) in
+    rw (handed_on _ _ c.from_residual.ensures.1) (sym (partly_fault c.loop-t.invariant (omega arith) (pair_any c.args.bytes.now c.args.m c.loop-t._t c.loop-t.at 0 ∙ e)))
 
-pub loop-preserved : goal.loop-preserved
-loop-preserved c =
-    let e = gauged_got (λ (p : ℕ × ℕ). p.1) (pair_at c.args.bytes.now c.args.m 0 c.loop.at) (sym c.in_ok-at.ensures) in
-    partly_more c.loop.invariant 1 (c.loop.counter + 1) (omega arith) (pair_any c.args.bytes.now c.args.m c.loop.counter c.loop.at 0 ∙ e.read) (λ l. omega arith) refl
+pub loop-t-preserved : goal.loop-t-preserved
+loop-t-preserved c =
+    let e = gauged_got (λ (p : ℕ × ℕ). p.1) (pair_at c.args.bytes.now c.args.m 0 c.loop-t.at) (sym c.in_ok-at.ensures) in
+    partly_more c.loop-t.invariant 1 (c.loop-t._t + 1) (omega arith) (pair_any c.args.bytes.now c.args.m c.loop-t._t c.loop-t.at 0 ∙ e.read) (λ l. omega arith) refl
 
 pub returns : goal.returns
-returns c = sym (partly_all c.loop.invariant c.args.m (omega arith) (omega arith))
+returns c = sym (partly_all c.loop-t.invariant c.args.m (omega arith) (omega arith))

@@ -5,5 +5,5 @@ use Rattle.sheet.specs.Sheet.{counted}
 use Rattle.sheet.proofs.Gauges.{Partly}
 use Rattle.sheet.proofs.scan.scan_order.Given as goal
 
-abbrev pub invariant-loop : goal.invariant-loop
-invariant-loop l = Partly (pair_at l.bytes l.m) counted length l.m 0 l.place l.counter l.counter l.counter l.at
+abbrev pub invariant-loop-t : goal.invariant-loop-t
+invariant-loop-t l = Partly (pair_at l.bytes l.m) counted length l.m 0 l.place l._t l._t l._t l.at
