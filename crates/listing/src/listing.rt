@@ -1,4 +1,4 @@
-// Whether one listing, by columns or by rows, is well formed.
+// One listing, by columns or by rows: its parts, and whether it is well formed.
 ghost use Rattle.std.specs.Prelude.{◌≡◌, ◌+◌, ◌≤◌, ◌<◌, length};
 ghost use Rattle.pattern.specs.Rising.{Rising};
 ghost use Rattle.pattern.specs.Series.{tally};

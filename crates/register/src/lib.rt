@@ -96,7 +96,8 @@ impl Register {
     }
 
     // Starts a register from its column listing, in the order that pairs row t with column t: after checks 1, 2, 3 and 5 of that
-    // listing the row listing and the order are written.
+    // listing the row listing and the order are written. The columns are read alone, so the four lists that are written come by
+    // themselves, and not in a `LentMut`.
     pub fn start(
         self,
         columns: Listed,

@@ -72,7 +72,8 @@ fn all_met(m: usize, starts: &[u16], next: &[u16; Register::MAX_SIZE]) -> bool
     next[..m] == starts[1..m + 1]
 }
 
-// Whether the row listing is the columns turned; and the columns' greatest places. The list `next` is lent for the cursors.
+// Whether the row listing is the columns turned; and the columns' greatest places. The list `next` is lent for the cursors. That two
+// lists keep their lengths is said for a caller that has them as fields of a struct: it does not learn it from their type.
 pub fn same(
     columns: Formed,
     rows: Listed,

@@ -1,5 +1,4 @@
--- What stands at a place of a register in lent lists, as the writer comes to it: a row of a column, a column that a look hands
--- over, a pair of the order. Rests on `pattern` and `listing`.
+-- What stands at a place of a register in lent lists, as the writer comes to it: a row of a column, a column, a pair of the order. Rests on `pattern` and `listing`.
 use mathlib.Core.List.{List}
 use mathlib.Core.Path.{◌≡◌, ap, ◌∙◌}
 use Prim.Native.Nat.{ℕ, ◌+◌, ◌≤◌, ◌<◌, min}

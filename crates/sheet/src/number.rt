@@ -127,7 +127,8 @@ pub fn width(value: u32) -> usize
     3
 }
 
-// Puts the groups of a number at this place, group by group; replies the place after them.
+// Puts the groups of a number at this place, group by group; replies the place after them. `Bytes` is put together from this and from
+// `put`, so that the bytes and the place come one by one here.
 fn put_groups(value: u32, bytes: &mut [u8], place: usize) -> usize
     requires { (value ≤ max_number) × (place + length (groups value) ≤ length bytes.old) }
     ensures { Puts place (groups value) bytes.old result bytes.new }
