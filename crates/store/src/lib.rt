@@ -3,5 +3,6 @@
 #![tactic(auto)]
 
 pub mod join;
+mod moves;
 mod starts;
 pub mod store;

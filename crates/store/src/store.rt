@@ -12,6 +12,7 @@ ghost use Rattle.listing.specs.Loan.{parts_in, GoodIn, SameListed, Holds};
 ghost use Rattle.store.specs.Store.{emptied, filled, exchanged, spread, Changing, LetIn, Piece};
 
 use crate::join::below;
+use crate::moves::shift;
 use crate::starts::{lower, raise};
 use listing::MAX_SIZE;
 use listing::formed::Formed;
@@ -49,14 +50,14 @@ fn take_out(m: usize, listed: &mut ListedMut, c: usize, r: usize, these: &[u16])
     for j in these {
         let j = wide(*j);
         let out = piece(listed.view(), c, r, j);
-        listed.entries.copy_within(from..out.from, from - gone);
+        shift(listed.entries, from, out.from, from - gone);
         lower(listed.starts, k, j + 1, gone);
         gone += out.to - out.from;
         from = out.to;
         k = j + 1;
     }
     let end = wide(listed.starts[m]);
-    listed.entries.copy_within(from..end, from - gone);
+    shift(listed.entries, from, end, from - gone);
     lower(listed.starts, k, m + 1, gone);
 }
 
@@ -87,7 +88,7 @@ fn insert(m: usize, columns: &mut ListedMut, c: usize, rows: &[u16])
     let n = rows.len();
     let from = wide(columns.starts[c]);
     let to = wide(columns.starts[m]);
-    columns.entries.copy_within(from..to, from + n);
+    shift(columns.entries, from, to, from + n);
     raise(columns.starts, c, m, n);
     copy(rows, from, columns.entries);
 }
@@ -111,7 +112,7 @@ fn let_in(listed: &mut ListedMut, c: usize, k: usize, rest: Rest, i: usize) -> R
         listed.new.starts.now listed.new.entries.now result.end }
 {
     let q = wide(listed.starts[k]) + below(listed.view().part(k), c);
-    listed.entries.copy_within(q..rest.end, q + (i + 1));
+    shift(listed.entries, q, rest.end, q + (i + 1));
     listed.entries[q + i] = c as u16;
     raise(listed.starts, k, rest.top, i + 1);
     Rest { end: q, top: k }

@@ -1,6 +1,6 @@
 -- `insert`: the later entries go up, their starts are raised, and the rows are copied in between.
 use mathlib.Core.List.{List}
-use mathlib.Core.Path.{◌≡◌, refl, ◌∙◌}
+use mathlib.Core.Path.{◌≡◌, refl}
 use Prim.Native.Nat.{ℕ, ◌+◌, ◌≤◌}
 use native.Mathlib.Omega.{arith}
 use lib.ListN.{length}
@@ -10,10 +10,9 @@ use Rattle.listing.specs.Held.{put}
 use Rattle.listing.specs.Listing.{between, parts}
 use Rattle.listing.proofs.Listings.{starts_rise}
 use Rattle.store.specs.Store.{filled}
-use Rattle.store.proofs.Moving.{moved}
 use Rattle.store.proofs.Fillings.{filled_total, filled_room, filled_held}
 use Rattle.store.proofs.store.insert.Goals as goal
-use Rattle.store.proofs.store.insert.Goals.{After-copy_within, After-wide-to}
+use Rattle.store.proofs.store.insert.Goals.{After-shift, After-wide-to}
 
 -- The places, once they have been read.
 module _ (c : After-wide-to) where
@@ -41,21 +40,16 @@ module _ (c : After-wide-to) where
   fits : at cs m + length new ≤ length c.args.columns.now.entries.now
   fits = omega (arith, total, c.requires.room.1)
 
-pub copy_within-requires-clause-start_le_end : goal.copy_within-requires-clause-start_le_end
-copy_within-requires-clause-start_le_end c =
-    let w = (goal.at.copy_within-requires-clause-start_le_end c).After-wide-to in
-    omega (arith, begins w, ends w, rise w c.args.c (omega (arith, c.requires.good.1)))
-
-pub copy_within-requires-clause-dest_in_bounds : goal.copy_within-requires-clause-dest_in_bounds
-copy_within-requires-clause-dest_in_bounds c =
-    let w = (goal.at.copy_within-requires-clause-dest_in_bounds c).After-wide-to in
-    omega (arith, begins w, ends w, rise w c.args.c (omega (arith, c.requires.good.1)), fits w)
+pub shift-requires : goal.shift-requires
+shift-requires c =
+    let w = (goal.at.shift-requires c).After-wide-to in
+    let h : c.wide-from.result ≤ c.wide-to.result = omega (arith, begins w, ends w, rise w c.args.c (omega (arith, c.requires.good.1))) in
+    (h, omega (arith, ends w, fits w), omega (arith, h, ends w, fits w))
 
 -- The later entries have gone up.
-module _ (c : After-copy_within) where
-  up : c.copy_within.new.self ≡ put (c.wide-from.result + length c.args.rows.now) (between c.wide-from.result c.wide-to.result c.args.columns.now.entries.now) c.args.columns.now.entries.now
-  up = c.copy_within.ensures.after ∙ moved c.args.columns.now.entries.now c.wide-from.result c.wide-to.result (c.wide-from.result + length c.args.rows.now)
-      (let w = (goal.at.After-copy_within c).After-wide-to in omega (arith, ends w, fits w))
+module _ (c : After-shift) where
+  up : c.shift.new.list ≡ put (c.wide-from.result + length c.args.rows.now) (between c.wide-from.result c.wide-to.result c.args.columns.now.entries.now) c.args.columns.now.entries.now
+  up = c.shift.ensures
 
 pub raise-requires : goal.raise-requires
 raise-requires c =
@@ -65,13 +59,13 @@ raise-requires c =
 pub copy-requires : goal.copy-requires
 copy-requires c =
     let after_wide_to = (goal.at.copy-requires c).After-wide-to in
-    filled_room c.requires.good.0 (new after_wide_to) c.requires.good.1 c.requires.good.2 (begins after_wide_to) (ends after_wide_to) refl c.requires.room.1 (up (goal.at.copy-requires c).After-copy_within)
+    filled_room c.requires.good.0 (new after_wide_to) c.requires.good.1 c.requires.good.2 (begins after_wide_to) (ends after_wide_to) refl c.requires.room.1 (up (goal.at.copy-requires c).After-shift)
 
 pub returns : goal.returns
 returns c =
     let after_wide_to = (goal.at.returns c).After-wide-to in
     record {
       same = record { starts = refl; entries = refl };
-      held = filled_held c.requires.good.0 (new after_wide_to) c.requires.good.1 c.requires.good.2 (begins after_wide_to) (ends after_wide_to) refl c.requires.room.1 (up (goal.at.returns c).After-copy_within) c.raise.ensures
+      held = filled_held c.requires.good.0 (new after_wide_to) c.requires.good.1 c.requires.good.2 (begins after_wide_to) (ends after_wide_to) refl c.requires.room.1 (up (goal.at.returns c).After-shift) c.raise.ensures
           c.copy.ensures;
     }

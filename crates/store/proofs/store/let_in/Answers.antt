@@ -10,7 +10,6 @@ use Rattle.listing.specs.Listing.{between, part}
 use Rattle.listing.proofs.Between.{between_length}
 use Rattle.listing.proofs.Puts.{put_front}
 use Rattle.store.specs.Store.{Cut}
-use Rattle.store.proofs.Moving.{moved}
 use Rattle.store.proofs.store.let_in.Goals as goal
 use Rattle.store.proofs.store.let_in.Goals.{After-below}
 
@@ -49,7 +48,7 @@ returns c =
         from = omega (arith, begins after_below);
         cut = subst (λ (n : ℕ). Cut a.c n (part (starts after_below) (entries after_below) (k after_below))) (sym x) (cut after_below);
         entries_now =
-            ap (λ (l : List ℕ). set l (q + a.i) a.c) (c.copy_within.ensures.after ∙ moved (entries after_below) q a.rest.end (q + (a.i + 1)) (omega (arith, c.requires)) ∙ ap (λ (n : ℕ). put n (between q a.rest.end (entries after_below)) (entries after_below)) n)
+            ap (λ (l : List ℕ). set l (q + a.i) a.c) (c.shift.ensures ∙ ap (λ (n : ℕ). put n (between q a.rest.end (entries after_below)) (entries after_below)) n)
             ∙ put_front (q + a.i) (between q a.rest.end (entries after_below)) (entries after_below) a.c (omega (arith, begins after_below, upto after_below, c.requires));
         raised = c.raise.ensures;
       },

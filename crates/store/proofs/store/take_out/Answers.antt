@@ -1,11 +1,10 @@
 -- `take_out`: a turn deletes a piece of the next part that changes, and what stands before the piece goes down.
 use mathlib.Core.Path.{◌≡◌, ◌∙◌}
-use Prim.Native.Nat.{◌-◌, ◌<◌}
+use Prim.Native.Nat.{◌<◌}
 use native.Mathlib.Omega.{arith}
 use lib.ListN.{length}
 use Rattle.pattern.specs.Places.{at}
 use Rattle.store.specs.Store.{Piece}
-use Rattle.store.proofs.Moving.{moved}
 use Rattle.store.proofs.Takings.{next_within, next_down, next_lower, taken_more, last_start, last_down, last_lower, taken_all}
 use Rattle.store.proofs.store.take_out.Goals as goal
 use Rattle.store.proofs.store.take_out.Goals.{After-piece-out, After-wide-end}
@@ -23,10 +22,10 @@ module _ (p : After-piece-out) where
   seen : Piece p.args.c p.args.r p.wide-j.result p.loop-j.listed.starts.now p.loop-j.listed.entries.now p.piece-out.result.from p.piece-out.result.to
   seen = rw p.view.ensures.0 at (rw p.view.ensures.1 at p.piece-out.ensures)
 
-pub copy_within-requires : goal.copy_within-requires
-copy_within-requires c =
-    let d = next_down c.requires.0 c.requires.1 c.loop-j.invariant.taken (left (goal.at.copy_within-requires c).After-piece-out) c.wide-j.ensures (seen (goal.at.copy_within-requires c).After-piece-out) in
-    record { start_le_end = d.1; in_bounds = d.2; dest_in_bounds = omega (arith, d.0, d.1, d.2); not_exhausted = tt }
+pub shift-requires : goal.shift-requires
+shift-requires c =
+    let d = next_down c.requires.0 c.requires.1 c.loop-j.invariant.taken (left (goal.at.shift-requires c).After-piece-out) c.wide-j.ensures (seen (goal.at.shift-requires c).After-piece-out) in
+    (d.1, d.2, omega (arith, d.0, d.1, d.2))
 
 pub lower-requires : goal.lower-requires
 lower-requires c = next_lower c.requires.0 c.requires.1 c.loop-j.invariant.taken (left (goal.at.lower-requires c).After-piece-out) c.wide-j.ensures
@@ -35,11 +34,10 @@ pub loop-j-preserved : goal.loop-j-preserved
 loop-j-preserved c =
     let h = left (goal.at.loop-j-preserved c).After-piece-out in
     let l = c.loop-j in
-    let d = next_down c.requires.0 c.requires.1 l.invariant.taken h c.wide-j.ensures (seen (goal.at.loop-j-preserved c).After-piece-out) in
     record {
       same = record { starts = l.invariant.same.starts; entries = l.invariant.same.entries };
       taken = taken_more c.requires.0 c.requires.1 l.invariant.taken h c.wide-j.ensures (seen (goal.at.loop-j-preserved c).After-piece-out)
-          (c.copy_within.ensures.after ∙ moved l.listed.entries.now l.from c.piece-out.result.from (l.from - l.gone) d.2) c.lower.ensures;
+          c.shift.ensures c.lower.ensures;
     }
 
 -- ---- The end
@@ -51,10 +49,11 @@ module _ (w : After-wide-end) where
   ends : w.wide-end.result ≡ at w.args.listed.now.starts.now w.args.m
   ends = w.wide-end.ensures ∙ last_start w.requires.0 w.requires.1 w.loop-j.invariant.taken all
 
-pub copy_within-requires-2-clause-start_le_end : goal.copy_within-requires-2-clause-start_le_end
-copy_within-requires-2-clause-start_le_end c =
-    let w = (goal.at.copy_within-requires-2-clause-start_le_end c).After-wide-end in
-    omega (arith, (last_down c.requires.0 c.requires.1 c.loop-j.invariant.taken (all w)).1, ends w)
+pub shift-requires-2 : goal.shift-requires-2
+shift-requires-2 c =
+    let w = (goal.at.shift-requires-2 c).After-wide-end in
+    let d = last_down c.requires.0 c.requires.1 c.loop-j.invariant.taken (all w) in
+    (omega (arith, d.1, ends w), omega (arith, d.2, ends w), omega (arith, d.0, d.1, d.2, ends w))
 
 pub lower-requires-2 : goal.lower-requires-2
 lower-requires-2 c = last_lower c.requires.0 c.requires.1 c.loop-j.invariant.taken (all (goal.at.lower-requires-2 c).After-wide-end)
@@ -64,9 +63,8 @@ returns c =
     let h = all (goal.at.returns c).After-wide-end in
     let l = c.loop-j in
     let e = ends (goal.at.returns c).After-wide-end in
-    let d = last_down c.requires.0 c.requires.1 l.invariant.taken h in
     record {
       same = record { starts = l.invariant.same.starts; entries = l.invariant.same.entries };
       held = taken_all c.requires.0 c.requires.1 l.invariant.taken h
-          (rw e at (c.copy_within-2.ensures.after ∙ moved l.listed.entries.now l.from c.wide-end.result (l.from - l.gone) (omega (arith, d.2, e)))) c.lower-2.ensures;
+          (rw e at c.shift-2.ensures) c.lower-2.ensures;
     }
