@@ -8,7 +8,10 @@ pub fn copy(numbers: &[u16], from: usize, list: &mut [u16])
     requires { from + length numbers.now ≤ length list.old }
     ensures { list.new ≡ put from numbers.now list.old }
 {
-    list[from..from + numbers.len()].copy_from_slice(numbers);
+    // Not by `copy_from_slice`: the library for C would need `memmove` then.
+    for (i, &number) in numbers.iter().enumerate() {
+        list[from + i] = number;
+    }
 }
 
 // The first n numbers of a list.

@@ -18,7 +18,8 @@ use listing::wide::wide;
 pub fn enter(m: usize, numbers: &[u16], places: &mut [u16; Register::MAX_SIZE]) -> bool
     requires in_range { (m ≤ max_size) × (m ≤ length numbers.now) }
     requires none_placed { (x : ℕ) → x < max_size → at places.old x ≡ max_size }
-    ensures { Told result (Placed m (at numbers.now) places.new) (¬ Once (at numbers.now) m m) }
+    ensures told { Told result (Placed m (at numbers.now) places.new) (¬ Once (at numbers.now) m m) }
+    ensures length { length places.new ≡ max_size }
 {
     for (t, number) in numbers[..m].iter().enumerate() {
         let x = wide(*number);
@@ -75,17 +76,23 @@ pub fn topped(m: usize, cs: &[u16], cols: &[u16], tops: &[u16; Register::MAX_SIZ
     true
 }
 
-// Whether the order is sound for the columns.
-pub fn sound(columns: Formed, rows: &[u16], cols: &[u16]) -> bool
+// Whether the order is sound for the columns. The two lists are lent for the places of rows and of columns.
+pub fn sound(
+    columns: Formed,
+    rows: &[u16],
+    cols: &[u16],
+    places: &mut [u16; Register::MAX_SIZE],
+    tops: &mut [u16; Register::MAX_SIZE],
+) -> bool
     requires { (columns.size ≤ length rows.now) × (columns.size ≤ length cols.now) }
-    ensures { Says result
+    ensures says { Says result
         (Sound (Entry (parts_of columns.entry)) columns.entry.size (at rows.now) (at cols.now)) }
+    ensures lengths { (length places.new ≡ max_size) × (length tops.new ≡ max_size) }
 {
-    let mut places = [NOWHERE; Register::MAX_SIZE];
-    if !enter(columns.size, rows, &mut places) {
+    clear(places);
+    if !enter(columns.size, rows, places) {
         return false;
     }
-    let mut tops = [0u16; Register::MAX_SIZE];
-    lay_tops(columns, &places, &mut tops);
-    topped(columns.size, columns.listed.starts, cols, &tops)
+    lay_tops(columns, places, tops);
+    topped(columns.size, columns.listed.starts, cols, tops)
 }

@@ -23,7 +23,10 @@ fn set_out(m: usize, starts: &[u16], next: &mut [u16; Register::MAX_SIZE])
     requires { (m ≤ max_size) × (m < length starts.now) }
     ensures { (r : ℕ) → r < m → at next.new r ≡ at starts.now r }
 {
-    next[..m].copy_from_slice(&starts[..m]);
+    // Not by `copy_from_slice`, as in `copy` of `listing`.
+    for (r, &start) in starts[..m].iter().enumerate() {
+        next[r] = start;
+    }
 }
 
 // Reads column j, which has these rows. Each row's cursor goes past j, which must stand there. No end of a row is asked for: each
@@ -82,11 +85,11 @@ pub fn same(
     tops: &mut [u16; Register::MAX_SIZE],
 ) -> bool
     requires { Room columns.size rows.starts.now rows.entries.now × Starts columns.size rows.starts.now }
-    ensures { Told result
+    ensures told { Told result
         (RowsTurned columns.entry.size (parts_of columns.entry) rows.entry.starts.now rows.entry.entries.now
-        × Tops columns.entry.size places.now (parts_of columns.entry) tops.new
-        × (length next.new ≡ max_size) × (length tops.new ≡ max_size))
+        × Tops columns.entry.size places.now (parts_of columns.entry) tops.new)
         (¬ RowsTurned columns.entry.size (parts_of columns.entry) rows.entry.starts.now rows.entry.entries.now) }
+    ensures lengths { (length next.new ≡ max_size) × (length tops.new ≡ max_size) }
 {
     set_out(columns.size, rows.starts, next);
     for j in 0..columns.size {

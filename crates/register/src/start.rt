@@ -1,8 +1,12 @@
 // A register started from its column listing, in the order that pairs row t with column t: the row
 // listing and the order are written where the checks pass.
 ghost use Rattle.std.specs.Prelude.{◌≡◌, ◌≤◌, length};
+ghost use Rattle.pattern.specs.Order.{Sound};
+ghost use Rattle.pattern.specs.Pattern.{Entry};
+ghost use Rattle.listing.specs.Formed.{parts_of};
 ghost use Rattle.listing.specs.Held.{over};
 ghost use Rattle.listing.specs.Limits.{max_size};
+ghost use Rattle.listing.specs.Says.{Says};
 ghost use Rattle.register.specs.Lent.{lists};
 ghost use Rattle.register.specs.Loan.{seen};
 ghost use Rattle.register.specs.Reply.{fault};
@@ -11,11 +15,37 @@ ghost use Rattle.register.specs.Start.{started, own_places, StartFault, StartsWi
 use crate::lent::Lent;
 use crate::order::sound;
 use crate::room::takes;
+use crate::scratch::Scratch;
 use crate::{Refusal, Register};
 use listing::formed::Formed;
 use listing::listing::Listed;
 use listing::turn::turn;
 use listing::wide::wide;
+
+// Each of the first m places gets its own number.
+fn lay_own(m: usize, list: &mut [u16])
+    requires { (m ≤ max_size) × (m ≤ length list.old) }
+    ensures { list.new ≡ over (own_places m) list.old }
+{
+    for (t, number) in list[..m].iter_mut().enumerate() {
+        *number = t as u16;
+    }
+}
+
+// Whether the order t:t is sound for the columns. The lists for it are one struct, as a replacement's are: so where both calls are
+// taken into one function, as into a run of the tryout, they have one place on the stack.
+fn own_sound(columns: Formed, scratch: &mut Scratch) -> bool
+    ensures { Says result (Sound (Entry (parts_of columns.entry)) columns.entry.size (λ t. t) (λ t. t)) }
+{
+    lay_own(columns.size, &mut scratch.work);
+    sound(
+        columns,
+        &scratch.work,
+        &scratch.work,
+        &mut scratch.row_places,
+        &mut scratch.col_places,
+    )
+}
 
 // The first fault of a start.
 fn start_fault(m: usize, lists: Lent) -> Result<(), Refusal>
@@ -36,25 +66,19 @@ fn start_fault(m: usize, lists: Lent) -> Result<(), Refusal>
     if !lists.columns.formed(m) {
         return Err(Refusal::MalformedListing);
     }
-    let order = Register::fresh_order();
     let columns = Formed {
         size: m,
         listed: lists.columns,
     };
-    if !sound(columns, &order, &order) {
+    let mut scratch = Scratch {
+        work: [0u16; Register::MAX_SIZE],
+        row_places: [0u16; Register::MAX_SIZE],
+        col_places: [0u16; Register::MAX_SIZE],
+    };
+    if !own_sound(columns, &mut scratch) {
         return Err(Refusal::OrderUnsound);
     }
     Ok(())
-}
-
-// Each of the first m places gets its own number.
-fn lay_own(m: usize, list: &mut [u16])
-    requires { (m ≤ max_size) × (m ≤ length list.old) }
-    ensures { list.new ≡ over (own_places m) list.old }
-{
-    for (t, number) in list[..m].iter_mut().enumerate() {
-        *number = t as u16;
-    }
 }
 
 // Starts a register.

@@ -1,5 +1,5 @@
 // What PERMUTED and ELIMINATION change: the pattern in both listings, and the order. The scratch list for work is lent to the store.
-ghost use Rattle.std.specs.Prelude.{[], ◌≡◌, ℕ, ◌<◌};
+ghost use Rattle.std.specs.Prelude.{[], ◌≡◌, ℕ, ◌<◌, length};
 ghost use Rattle.pattern.specs.Choice.{NoChoice};
 ghost use Rattle.pattern.specs.Flat.{start_of};
 ghost use Rattle.pattern.specs.Pattern.{Entry};
@@ -8,6 +8,7 @@ ghost use Rattle.pattern.specs.Rising.{Rising};
 ghost use Rattle.pattern.specs.Turned.{turned};
 ghost use Rattle.pattern.specs.Verdict.{size, Spike};
 ghost use Rattle.listing.specs.Held.{Held};
+ghost use Rattle.listing.specs.Limits.{max_size};
 ghost use Rattle.register.specs.Checks.{Fits};
 ghost use Rattle.register.specs.Lent.{columns, SoundLists};
 ghost use Rattle.register.specs.Loan.{held, SameLists};
@@ -45,6 +46,7 @@ fn exchange(
     ensures rows_held { Held (turned m (exchanged m (columns m (held lists.old)) c r new.now))
         lists.old.row_starts.now lists.old.row_cols.now lists.new.row_starts.now lists.new.row_cols.now }
     ensures order_kept { (lists.new.order_rows.now ≡ lists.old.order_rows.now) × (lists.new.order_cols.now ≡ lists.old.order_cols.now) }
+    ensures work_long { length work.new ≡ max_size }
 {
     let mut columns = ListedMut {
         starts: &mut *lists.col_starts,

@@ -65,7 +65,7 @@ some_fault (fails p e) z = omega arith
 some_fault (holds p e) z = omega arith
 
 turned : (c : Else-not-same) → Turned (goal.at.Else-not-same c).After-enter-entered
-turned c = (shown c.same.ensures c.if-not-same.false).0
+turned c = (shown c.same.ensures.told c.if-not-same.false).0
 
 pub returns-then-not-formed : goal.returns-then-not-formed
 returns-then-not-formed c = record {
@@ -82,14 +82,14 @@ returns-then-not-starts_right c = record {
 pub returns-then-not-same : goal.returns-then-not-same
 returns-then-not-same c =
     record {
-      contents = other (goal.at.returns-then-not-same c).After-enter-entered (refuted c.same.ensures c.if-not-same.true) _ c.unlike.ensures;
+      contents = other (goal.at.returns-then-not-same c).After-enter-entered (refuted c.same.ensures.told c.if-not-same.true) _ c.unlike.ensures;
       places_known = λ e. absurd (some_fault c.unlike.ensures e);
     }
 
 pub returns-then-not-entered : goal.returns-then-not-entered
 returns-then-not-entered c =
     record {
-      contents = behind (goal.at.returns-then-not-entered c).After-enter-entered (turned (goal.at.returns-then-not-entered c).Else-not-same) _ (fails (λ S. refuted c.enter-entered.ensures c.if-not-entered.true S.rows) refl);
+      contents = behind (goal.at.returns-then-not-entered c).After-enter-entered (turned (goal.at.returns-then-not-entered c).Else-not-same) _ (fails (λ S. refuted c.enter-entered.ensures.told c.if-not-entered.true S.rows) refl);
       places_known = λ z. absurd (omega (arith, z));
     }
 
@@ -99,12 +99,12 @@ module _ (c : After-topped) where
   after_enter_entered = (goal.at.After-topped c).After-enter-entered
 
   rows_placed : Placed (m after_enter_entered) (at (l after_enter_entered).order_rows) c.enter-entered.new.places
-  rows_placed = shown c.enter-entered.ensures c.if-not-entered.false
+  rows_placed = shown c.enter-entered.ensures.told c.if-not-entered.false
 
   answered : Says c.topped.result (OrderSound (m after_enter_entered) (l after_enter_entered))
   answered =
       let G = cols_good after_enter_entered in
-      let A = (shown c.same.ensures c.if-not-same.false).1 in
+      let A = (shown c.same.ensures.told c.if-not-same.false).1 in
       says_as (tops_sound G rows_placed A _) (sound_tops G rows_placed A _) c.topped.ensures
 
 pub returns-then-not-topped : goal.returns-then-not-topped
@@ -118,12 +118,12 @@ returns c =
     let after_topped = (goal.at.returns c).After-topped in
     let after_enter_entered = (goal.at.returns c).After-enter-entered in
     let S = shown (answered after_topped) c.if-not-topped.false in
-    let A = shown c.same.ensures c.if-not-same.false in record {
+    let A = shown c.same.ensures.told c.if-not-same.false in record {
       contents = behind after_enter_entered (turned (goal.at.returns c).Else-not-same) _ (holds S refl);
       places_known = λ z. record {
-        work_long = A.2;
+        work_long = c.same.ensures.lengths.0;
         rows_placed = rows_placed after_topped;
-        cols_placed = there_placed (at (l after_enter_entered).order_cols) A.3 S.cols (λ t h. (shown c.topped.ensures c.if-not-topped.false t h).top);
+        cols_placed = there_placed (at (l after_enter_entered).order_cols) c.same.ensures.lengths.1 S.cols (λ t h. (shown c.topped.ensures c.if-not-topped.false t h).top);
       };
     }
 
@@ -143,3 +143,7 @@ unlike-requires c = (c.requires.1.rows_fit, row_starts (goal.at.unlike-requires 
 
 pub topped-requires : goal.topped-requires
 topped-requires c = (c.requires.0.1, c.requires.1.columns_fit.starts_long, c.requires.1.order_cols_fit)
+
+-- The lists keep their lengths, whatever is replied.
+pub invariant_of-scratch : goal.invariant_of-scratch
+invariant_of-scratch c = record { long = (c.same.ensures.lengths.0, c.enter-entered.ensures.length, c.same.ensures.lengths.1) }

@@ -21,14 +21,14 @@ module _ (c : After-wide-x) where
 pub loop-t-init : goal.loop-t-init
 loop-t-init c = entered_none _ (omega arith) (λ x h. omega (arith, c.requires.none_placed x h))
 
-pub returns-then-m-x : goal.returns-then-m-x
-returns-then-m-x c =
-    let s = (goal.at.returns-then-m-x c).After-wide-x in
+pub returns-then-m-x-clause-told : goal.returns-then-m-x-clause-told
+returns-then-m-x-clause-told c =
+    let s = (goal.at.returns-then-m-x-clause-told c).After-wide-x in
     told_no (λ o. omega (arith, is_number s, o.below c.loop-t.t (in_range s)))
 
-pub returns-then-places-x-lt-NOWHERE : goal.returns-then-places-x-lt-NOWHERE
-returns-then-places-x-lt-NOWHERE c =
-    let s = (goal.at.returns-then-places-x-lt-NOWHERE c).After-wide-x in
+pub returns-then-places-x-lt-NOWHERE-clause-told : goal.returns-then-places-x-lt-NOWHERE-clause-told
+returns-then-places-x-lt-NOWHERE-clause-told c =
+    let s = (goal.at.returns-then-places-x-lt-NOWHERE-clause-told c).After-wide-x in
     told_no (entered_twice (at c.args.numbers.now) (omega arith) (in_range s) c.loop-t.invariant c.wide-x.result (is_number s) (omega arith) c.if-places-x-lt-NOWHERE.true)
 
 pub loop-t-preserved : goal.loop-t-preserved
@@ -36,7 +36,7 @@ loop-t-preserved c =
     let s = (goal.at.loop-t-preserved c).After-wide-x in
     entered_more (at c.args.numbers.now) (omega arith) (in_range s) c.loop-t.invariant c.wide-x.result (is_number s) (omega arith) c.if-places-x-lt-NOWHERE.false
 
-pub returns : goal.returns
-returns c =
+pub returns-clause-told : goal.returns-clause-told
+returns-clause-told c =
     let e : c.loop-t.t ≡ c.args.m = omega (arith, length-take-le c.args.m c.args.numbers.now c.requires.in_range.1) in
     told_yes (entered_all (at c.args.numbers.now) (rw e at c.loop-t.invariant))

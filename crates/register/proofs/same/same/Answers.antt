@@ -58,12 +58,12 @@ meet-requires c =
       cursors_low = λ r t. cursor_small c.requires.0 c.requires.1 (P (goal.at.meet-requires c).Start) l.j l.invariant.1.cursors (omega (arith, c.args.columns.good.small)) r (rising_below (rise after_part) r t);
     }
 
-pub returns-then-not-meet : goal.returns-then-not-meet
-returns-then-not-meet c =
-    let after_part = (goal.at.returns-then-not-meet c).After-part in
+pub returns-then-not-meet-clause-told : goal.returns-then-not-meet-clause-told
+returns-then-not-meet-clause-told c =
+    let after_part = (goal.at.returns-then-not-meet-clause-told c).After-part in
     told_no (λ all. refuted c.meet.ensures c.if-not-meet.true
     (subst (λ (l : List ℕ). AllNext c.args.rows.entries.now (j after_part) l c.loop-j.next) (sym (rows_are after_part))
-    (turned_next c.requires.0 c.requires.1 (P (goal.at.returns-then-not-meet c).Start) (j after_part) (good_columns c.args.columns.good) (in_size after_part) c.loop-j.invariant.1.cursors all)))
+    (turned_next c.requires.0 c.requires.1 (P (goal.at.returns-then-not-meet-clause-told c).Start) (j after_part) (good_columns c.args.columns.good) (in_size after_part) c.loop-j.invariant.1.cursors all)))
 
 pub loop-j-preserved : goal.loop-j-preserved
 loop-j-preserved c =
@@ -78,10 +78,10 @@ loop-j-preserved c =
           (stored_more (λ y. greatest (at places) (column (P start) y)) c.loop-j.tops (j after_part) _ (omega (arith, i.0, in_size after_part, c.args.columns.good.small)) (ap (greatest (at places)) (rows_are after_part)) i.2),
     )
 
-pub returns : goal.returns
-returns c =
-    let start = (goal.at.returns c).Start in
+pub returns-clause-told : goal.returns-clause-told
+returns-clause-told c =
+    let start = (goal.at.returns-clause-told c).Start in
     let e : c.loop-j.j ≡ c.args.columns.size = omega arith in
     let W : Passed c.args.columns.size (at c.args.rows.starts.now) c.args.rows.entries.now (λ r. row_of (P start) r c.args.columns.size) c.loop-j.next = rw e at c.loop-j.invariant.1 in
-    told_as (λ ends. (ends_turned (P start) c.requires.0 c.requires.1 W ends, (λ y h. c.loop-j.invariant.2 y (omega arith)), c.loop-j.invariant.1.cursors.long, c.loop-j.invariant.0))
+    told_as (λ ends. (ends_turned (P start) c.requires.0 c.requires.1 W ends, λ y h. c.loop-j.invariant.2 y (omega arith)))
     (λ n all. n (turned_ends (P start) c.requires.0 c.requires.1 W all)) c.all_met.ensures

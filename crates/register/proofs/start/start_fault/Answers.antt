@@ -3,8 +3,6 @@ use mathlib.Core.Path.{refl}
 use native.Mathlib.Omega.{arith}
 use Rattle.pattern.specs.Ladder.{holds}
 use Rattle.listing.proofs.Answers.{shown}
-use Rattle.register.specs.Loan.{seen}
-use Rattle.register.proofs.Starting.{fresh_sound}
 use Rattle.register.proofs.start.start_fault.Goals as goal
 
 pub returns : goal.returns
@@ -12,4 +10,4 @@ returns c =
     holds (omega arith)
     (holds (rw (← c.wide.ensures) (shown c.takes.ensures c.if-not-takes.false))
     (holds (shown c.formed.ensures c.if-not-formed.false)
-    (holds (fresh_sound c.args.m (seen c.args.lists) (omega arith) c.fresh_order-order.ensures (shown c.sound.ensures c.if-not-sound.false)) refl)))
+    (holds (shown c.own_sound.ensures c.if-not-own_sound.false) refl)))

@@ -98,3 +98,9 @@ returns-clause-clears c =
     let E = c.exchange.ensures in
     cleared_stored (J start) (r_is start c.wide-r.ensures) (rows_are (goal.at.returns-clause-clears c).After-first-rows) c.args.p
     E.columns_held E.rows_held (rw E.order_kept.0 at c.move_last.ensures) (rw E.order_kept.1 at c.move_last-2.ensures)
+
+-- The scratch lists keep their lengths.
+pub invariant_of-scratch : goal.invariant_of-scratch
+invariant_of-scratch c =
+    let long = c.args.scratch.now.long in
+    record { long = (c.exchange.ensures.work_long, c.join-n.auto.list ∙ long.1, long.2) }
