@@ -64,6 +64,10 @@ finds_one (got x end) f f' a b = a.2 ∙ ap (found x.size (total x)) (says_same 
 pub examine_determined : (bytes : List ℕ) (r r' : Result Examined Fault) → Examines bytes (finding r) → Examines bytes (finding r') → r ≡ r'
 examine_determined bytes r r' f f' = finding_same r r' (finds_one (record_read bytes) (finding r) (finding r') f f')
 
+-- A fault where its place is not asked for.
+pub from_determined : (fault : Fault) (r r' : Refusal) → r ≡ fault.reply → r' ≡ fault.reply → r ≡ r'
+from_determined fault r r' e e' = e ∙ sym e'
+
 -- ---- The reader
 
 reads_one : (l : Lists) (r : Read Record) (o o' : ReadIn) → ReadsAs l r o → ReadsAs l r o' → o ≡ o'
