@@ -4,7 +4,8 @@ use register::lent::Lent;
 use std::io;
 
 pub fn line(rt: &impl Print, label: &str, number: usize) -> io::Result<()> {
-    println!(rt; "{label}: {number}")
+    rt.write_all(label.as_bytes())?;
+    println!(rt; ": {number}")
 }
 
 // The number of a lent register's first fault, or 0.
