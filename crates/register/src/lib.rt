@@ -24,6 +24,7 @@ ghost use Rattle.register.specs.Start.{started, StartsWith};
 use crate::lent::Lent;
 use crate::marks::Marks;
 use crate::scratch::Scratch;
+use crate::start::lay_own;
 use listing::listing::Listed;
 use listing::look::{Span, sight};
 use listing::{MAX_SIZE, MAX_TOTAL};
@@ -77,9 +78,7 @@ impl Register {
         ensures { Fresh result }
     {
         let mut order = [0u16; Register::MAX_SIZE];
-        for (t, number) in order.iter_mut().enumerate() {
-            *number = t as u16;
-        }
+        lay_own(Register::MAX_SIZE, &mut order);
         order
     }
 

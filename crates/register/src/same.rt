@@ -16,6 +16,7 @@ ghost use Rattle.register.specs.Order.{Tops};
 use crate::Register;
 use listing::formed::Formed;
 use listing::listing::Listed;
+use listing::lists::copy;
 use listing::wide::wide;
 
 // Each row's cursor at the row's start.
@@ -23,10 +24,7 @@ fn set_out(m: usize, starts: &[u16], next: &mut [u16; Register::MAX_SIZE])
     requires { (m ≤ max_size) × (m < length starts.now) }
     ensures { (r : ℕ) → r < m → at next.new r ≡ at starts.now r }
 {
-    // Not by `copy_from_slice`, as in `copy` of `listing`.
-    for (r, &start) in starts[..m].iter().enumerate() {
-        next[r] = start;
-    }
+    copy(&starts[..m], 0, next);
 }
 
 // Reads column j, which has these rows. Each row's cursor goes past j, which must stand there. No end of a row is asked for: each

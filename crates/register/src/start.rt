@@ -23,7 +23,7 @@ use listing::turn::turn;
 use listing::wide::wide;
 
 // Each of the first m places gets its own number.
-fn lay_own(m: usize, list: &mut [u16])
+pub fn lay_own(m: usize, list: &mut [u16])
     requires { (m ≤ max_size) × (m ≤ length list.old) }
     ensures { list.new ≡ over (own_places m) list.old }
 {

@@ -6,13 +6,12 @@ use native.Mathlib.Omega.{arith}
 use lib.ListN.{length}
 use Rattle.pattern.specs.Flat.{start_of}
 use Rattle.pattern.specs.Places.{at}
-use Rattle.listing.specs.Held.{put}
-use Rattle.listing.specs.Listing.{between, parts}
+use Rattle.listing.specs.Listing.{parts}
 use Rattle.listing.proofs.Listings.{starts_rise}
 use Rattle.store.specs.Store.{filled}
 use Rattle.store.proofs.Fillings.{filled_total, filled_room, filled_held}
 use Rattle.store.proofs.store.insert.Goals as goal
-use Rattle.store.proofs.store.insert.Goals.{After-shift, After-wide-to}
+use Rattle.store.proofs.store.insert.Goals.{After-wide-to}
 
 -- The places, once they have been read.
 module _ (c : After-wide-to) where
@@ -46,11 +45,6 @@ shift-requires c =
     let h : c.wide-from.result ≤ c.wide-to.result = omega (arith, begins w, ends w, rise w c.args.c (omega (arith, c.requires.good.1))) in
     (h, omega (arith, ends w, fits w), omega (arith, h, ends w, fits w))
 
--- The later entries have gone up.
-module _ (c : After-shift) where
-  up : c.shift.new.list ≡ put (c.wide-from.result + length c.args.rows.now) (between c.wide-from.result c.wide-to.result c.args.columns.now.entries.now) c.args.columns.now.entries.now
-  up = c.shift.ensures
-
 pub raise-requires : goal.raise-requires
 raise-requires c =
     let after_wide_to = (goal.at.raise-requires c).After-wide-to in
@@ -59,13 +53,13 @@ raise-requires c =
 pub copy-requires : goal.copy-requires
 copy-requires c =
     let after_wide_to = (goal.at.copy-requires c).After-wide-to in
-    filled_room c.requires.good.0 (new after_wide_to) c.requires.good.1 c.requires.good.2 (begins after_wide_to) (ends after_wide_to) refl c.requires.room.1 (up (goal.at.copy-requires c).After-shift)
+    filled_room c.requires.good.0 (new after_wide_to) c.requires.good.1 c.requires.good.2 (begins after_wide_to) (ends after_wide_to) refl c.requires.room.1 c.shift.ensures
 
 pub returns : goal.returns
 returns c =
     let after_wide_to = (goal.at.returns c).After-wide-to in
     record {
       same = record { starts = refl; entries = refl };
-      held = filled_held c.requires.good.0 (new after_wide_to) c.requires.good.1 c.requires.good.2 (begins after_wide_to) (ends after_wide_to) refl c.requires.room.1 (up (goal.at.returns c).After-shift) c.raise.ensures
+      held = filled_held c.requires.good.0 (new after_wide_to) c.requires.good.1 c.requires.good.2 (begins after_wide_to) (ends after_wide_to) refl c.requires.room.1 c.shift.ensures c.raise.ensures
           c.copy.ensures;
     }
